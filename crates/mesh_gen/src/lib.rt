@@ -1,13 +1,17 @@
-// A library with one function.
+//! The mesh of a chip: its sizes and limits, where its tiles stand, and the small types that the crates above share.
 #![tactic(auto)]
 
-ghost use Rattle.std.specs.Prelude.{◌≡◌};
-ghost use Rattle.mesh_gen.specs.Echo.{echo_of};
+mod items;
+mod mesh;
+mod port;
+mod refusals;
+mod text;
 
-// The `ensures` clause is the contract: what `echo` returns is `echo_of` of its argument, a definition
-// in `specs/Echo.antt`, which a caller's clause can cite too.
-pub fn echo(x: usize) -> usize
-    ensures { result ≡ echo_of x }
-{
-    x
-}
+pub use items::{Image, Items, Tiles};
+pub use mesh::Mesh;
+pub use port::Port;
+pub use refusals::{NoChannel, NoMemory, NotEnabled, NotReady};
+pub use text::Text;
+
+#[cfg(test)]
+mod tests;
