@@ -1,1 +1,4 @@
+pub mod Coordinates
+pub mod Distances
 pub mod OneTile
+pub mod TileSets

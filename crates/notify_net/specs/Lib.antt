@@ -1,0 +1,3 @@
+pub mod Latches
+pub mod Merge
+pub mod Links
