@@ -1,12 +1,12 @@
 -- The tiles within k + 1 hops of a tile are those within k hops of it or of a neighbour.
-use Rattle.std.proofs.Common.{◌≡◌, ◌⊎◌, ℕ, suc, ◌+◌, ◌<◌, ◌≤◌, Bool, true, false, ◌||◌, Option, None, Some, refl, sym, ◌∙◌, ap, inl, inr, arith}
+use Rattle.std.proofs.Common.{◌≡◌, ℕ, ◌+◌, ◌<◌, Bool, true, false, ◌||◌, Option, None, Some, refl, sym, ◌∙◌, inl, inr, arith}
 use Rattle.std.specs.Prelude.{nat_le}
-use Rattle.std.proofs.lemmas.Bool.{cases_lt, cases_Bool, or_cases, le-leb, leb-true, true≢false}
+use Rattle.std.proofs.lemmas.Bool.{cases_lt, or_cases, le-leb, leb-true, true≢false}
 use Rattle.mesh_gen.specs.declared.port.Port.{Port}
 use Rattle.mesh_gen.specs.declared.port.Port.TheVariants.{L, E, W, N, S}
 use Rattle.mesh_gen.specs.Grid.{Grid, tiles, distance, neighbour}
 use Rattle.mesh_gen.proofs.Coordinates.{HasTiles}
-use Rattle.mesh_gen.proofs.Distances.{Nearer, nearer, distance-neighbour}
+use Rattle.mesh_gen.proofs.Distances.{nearer, distance-neighbour}
 
 -- whether s is at most k hops from a tile, where there is one
 abbrev pub is_near : Grid → ℕ → ℕ → Option ℕ → Bool

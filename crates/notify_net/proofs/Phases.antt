@@ -1,15 +1,14 @@
 -- Latches at a phase, after a post and after a tick.
-use Rattle.std.proofs.Common.{◌≡◌, ◌≢◌, ℕ, ◌+◌, ◌^◌, ◌<◌, ◌≤◌, Bool, true, false, ◌&&◌, ◌||◌, ◌==◌, List, [], ◌∷◌, ◌++◌, length, Option, None, Some, refl, sym, ◌∙◌, ap, subst, inl, inr, arith, bit_or, length-set}
-use Rattle.std.specs.Prelude.{nat_le, slice_index, slice_set}
-use Rattle.std.specs.List.{AllByRecursion}
+use Rattle.std.proofs.Common.{◌≡◌, ◌≢◌, ℕ, ◌+◌, ◌^◌, ◌<◌, Bool, true, false, ◌&&◌, ◌||◌, ◌==◌, List, [], ◌∷◌, ◌++◌, length, Option, None, Some, refl, sym, ◌∙◌, inl, inr, arith, bit_or, length-set}
+use Rattle.std.specs.Prelude.{nat_le, slice_index}
 use Rattle.std.proofs.Math.Bool.{and-false}
-use Rattle.std.proofs.lemmas.Bool.{cases_eq, eqb-true, le-leb, leb-true, true≢false}
+use Rattle.std.proofs.lemmas.Bool.{cases_eq, eqb-true}
 use Rattle.std.proofs.lemmas.Bool.Decides.{nat_tests}
 use Rattle.std.proofs.lemmas.List.{get_or-set_same, get_or-set_other}
 use Rattle.mesh_gen.specs.declared.port.Port.{Port}
-use Rattle.mesh_gen.specs.declared.port.Port.TheVariants.{L, E, W, N, S}
+use Rattle.mesh_gen.specs.declared.port.Port.TheVariants.{E, W, N, S}
 use Rattle.mesh_gen.specs.Grid.{Grid, tiles, distance, neighbour}
-use Rattle.mesh_gen.specs.TileSet.{has_tile, set_of, is_among}
+use Rattle.mesh_gen.specs.TileSet.{has_tile, is_among}
 use Rattle.mesh_gen.proofs.Coordinates.{HasTiles, has_tiles, inside-neighbour}
 use Rattle.mesh_gen.proofs.Distances.{distance-same, apart}
 use Rattle.mesh_gen.proofs.TileSets.{has_tile-or, has_tile-one, has_tile-none, has_tile-set_of, same_sets, is_among-filter, is_among-push, among_all, AllByRecursion-push}

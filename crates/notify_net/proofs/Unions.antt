@@ -1,9 +1,9 @@
 -- A tick by the sides that were looked up once is a tick.
-use Rattle.std.proofs.Common.{◌≡◌, ℕ, ◌<◌, Bool, true, false, ◌||◌, List, length, Option, None, Some, refl, sym, ◌∙◌, subst, arith, bit_or}
+use Rattle.std.proofs.Common.{◌≡◌, ℕ, ◌<◌, Bool, true, false, ◌||◌, List, length, Option, None, Some, refl, sym, ◌∙◌, arith}
 use Rattle.std.specs.Prelude.{slice_get, slice_index, slice_index_or, unwrap_or, IfSome}
 use Rattle.std.proofs.lemmas.Option.{get_or_from_slice_get}
 use Rattle.mesh_gen.specs.declared.port.Port.{Port}
-use Rattle.mesh_gen.specs.declared.port.Port.TheVariants.{L, E, W, N, S}
+use Rattle.mesh_gen.specs.declared.port.Port.TheVariants.{E, W, N, S}
 use Rattle.mesh_gen.specs.Grid.{Grid, tiles, neighbour}
 use Rattle.mesh_gen.specs.TileSet.{has_tile}
 use Rattle.mesh_gen.proofs.Coordinates.{has_tiles, inside-neighbour}

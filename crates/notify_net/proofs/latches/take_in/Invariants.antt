@@ -1,5 +1,5 @@
 -- The places below the counter have what they take in.
-use Rattle.std.proofs.Common.{◌≡◌, ℕ, ◌<◌, length}
+use Rattle.std.proofs.Common.{◌≡◌, ℕ, ◌<◌}
 use Rattle.std.specs.Prelude.{slice_get, slice_index, IfSome}
 use Rattle.notify_net.specs.Links.{union_of}
 use Rattle.notify_net.proofs.latches.take_in.Given as goal

@@ -1,4 +1,4 @@
-use Rattle.std.proofs.Common.{arith, rules}
+use Rattle.std.proofs.Common.{rules}
 use Rattle.std.proofs.lemmas.Grind.{common_steps}
 use Rattle.notify_net.proofs.Phases.{IsAtPhase-post}
 use Rattle.notify_net.proofs.latches.Latches.post.Goals as goal
