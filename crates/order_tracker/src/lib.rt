@@ -1,13 +1,11 @@
-// A library with one function.
+//! The tracker of an interface: it derives from the merged vectors which request comes next, with a priority that
+//! rotates from window to window.
 #![tactic(auto)]
 
-ghost use Rattle.std.specs.Prelude.{◌≡◌};
-ghost use Rattle.order_tracker.specs.Echo.{echo_of};
+mod tile_set;
+mod tracker;
 
-// The `ensures` clause is the contract: what `echo` returns is `echo_of` of its argument, a definition
-// in `specs/Echo.antt`, which a caller's clause can cite too.
-pub fn echo(x: usize) -> usize
-    ensures { result ≡ echo_of x }
-{
-    x
-}
+pub use tracker::Tracker;
+
+#[cfg(test)]
+mod tests;
