@@ -1,3 +1,4 @@
 pub mod Growth
 pub mod Phases
 pub mod Unions
+pub mod Wholes

@@ -1,6 +1,7 @@
 ghost use Rattle.std.specs.Prelude.{◌≡◌, ◌<◌, ℕ, List, [], ◌++◌, ◌∷◌, ◌+◌, ◌≤◌, ◌^◌, length, IfOk, slice_index, slice_get, slice_set, bit_or, All, IfSome};
-ghost use Rattle.mesh_gen.specs.Grid.{Grid, tiles};
+ghost use Rattle.mesh_gen.specs.Grid.{Grid, tiles, diameter};
 ghost use Rattle.mesh_gen.specs.Mesh.{grid};
+ghost use Rattle.mesh_gen.specs.TileSet.{set_of};
 ghost use Rattle.notify_net.specs.Latches.{cleared, posted, Ticks};
 ghost use Rattle.notify_net.specs.Links.{union_of, AreBelow};
 ghost use Rattle.notify_net.specs.Merge.{merged, IsAtPhase};
@@ -75,6 +76,8 @@ impl Latches {
         requires { t < tiles self.now.grid }
         ensures held { result ≡ slice_index self.now.latches t }
         ensures merged { (g : Grid) (posts : List ℕ) (k : ℕ) → IsAtPhase g posts k self.now → result ≡ merged g posts k t }
+        // After as many ticks as the mesh is wide, that is all who posted.
+        ensures whole { (g : Grid) (posts : List ℕ) (k : ℕ) → IsAtPhase g posts k self.now → diameter g ≤ k → result ≡ set_of posts }
     {
         self.latches[usize::from(t)]
     }

@@ -1,5 +1,5 @@
 -- What a test keeps of numbers that go upwards.
-use Rattle.std.proofs.Common.{◌≡◌, ℕ, zero, suc, ◌+◌, ◌<◌, ◌≤◌, Bool, true, false, cond, List, [], ◌∷◌, refl, ◌∙◌, inl, inr, arith}
+use Rattle.std.proofs.Common.{length, ◌≡◌, ℕ, zero, suc, ◌+◌, ◌<◌, ◌≤◌, Bool, true, false, cond, List, [], ◌∷◌, refl, ◌∙◌, inl, inr, arith}
 use Rattle.std.specs.Prelude.{filter}
 use Rattle.std.specs.List.{AllByRecursion}
 use Rattle.std.proofs.lemmas.Bool.{cases_eq}
@@ -51,3 +51,15 @@ kept_below p n x rest false inside all = all
 pub filter-below : (p : ℕ → Bool) (n a c : ℕ) → a + c ≤ n → AllByRecursion (λ t. t < n) (filter p (upwards a c))
 filter-below p n a zero within = tt
 filter-below p n a (suc c) within = kept_below p n a (filter p (upwards (a + 1) c)) (p a) (omega arith) (filter-below p n (a + 1) c (omega arith))
+
+
+
+
+
+kept_le : (p : ℕ → Bool) (x : ℕ) (rest : List ℕ) (b : Bool) (n : ℕ) → length rest ≤ n → length (cond b (x ∷ rest) rest) ≤ n + 1
+kept_le p x rest true n few = omega arith
+kept_le p x rest false n few = omega arith
+
+pub filter_le : (p : ℕ → Bool) (a c : ℕ) → length (filter p (upwards a c)) ≤ c
+filter_le p a zero = omega arith
+filter_le p a (suc c) = omega (arith, kept_le p a (filter p (upwards (a + 1) c)) (p a) c (filter_le p (a + 1) c))

@@ -1,5 +1,5 @@
 -- The turns of a window: the first tile of its expansion, and those that are left when it has had its turn.
-use Rattle.std.proofs.Common.{◌≡◌, ◌≢◌, ℕ, ◌+◌, ◌-◌, ◌%◌, ◌^◌, ◌<◌, ◌≤◌, Bool, true, false, not, ◌&&◌, ◌==◌, [], ◌∷◌, refl, sym, ◌∙◌, inl, inr, arith}
+use Rattle.std.proofs.Common.{ap, length, length-append, ◌≡◌, ◌≢◌, ℕ, ◌+◌, ◌-◌, ◌%◌, ◌^◌, ◌<◌, ◌≤◌, Bool, true, false, not, ◌&&◌, ◌==◌, [], ◌∷◌, refl, sym, ◌∙◌, inl, inr, arith}
 use Rattle.std.specs.Prelude.{filter}
 use Rattle.std.proofs.lemmas.Bool.{cases_eq, cases_lt, true≢false, ne_eqb}
 use Rattle.std.proofs.lemmas.Bool.Decides.{nat_tests}
@@ -9,7 +9,7 @@ use Rattle.mesh_gen.specs.TileSet.{has_tile}
 use Rattle.mesh_gen.proofs.TileSets.{has_tile-none}
 use Rattle.order_tracker.specs.Order.{upwards, round_from, expansion}
 use Rattle.order_tracker.specs.FirstFrom.{IsFirstFrom}
-use Rattle.order_tracker.proofs.Rounds.{filter-none, filter-skip, filter-first, filter-same}
+use Rattle.order_tracker.proofs.Rounds.{filter-none, filter-skip, filter-first, filter-same, filter_le}
 
 -- the tiles of a set below 2 ^ n are below n
 pub has_tile-below : (n set t : ℕ) → set < 2 ^ n → has_tile set t ≡ true → t < n
@@ -72,3 +72,11 @@ pub expansion-none : (n k : ℕ) → expansion n k 0 ≡ []
 expansion-none n k =
     filter-append (has_tile 0) (upwards (k % n) (n - k % n)) (upwards 0 (k % n))
     ∙ rw (filter-none (has_tile 0) (k % n) (n - k % n) (λ i low high. has_tile-none i), filter-none (has_tile 0) 0 (k % n) (λ i low high. has_tile-none i)) refl
+
+-- each tile has at most one turn in a window
+pub length-expansion-le : (n k window : ℕ) → 0 < n → length (expansion n k window) ≤ n
+length-expansion-le n k window some =
+    let first : k % n < n = omega arith in
+    let split = filter-append (has_tile window) (upwards (k % n) (n - k % n)) (upwards 0 (k % n)) in
+    omega (arith, ap length split, length-append (filter (has_tile window) (upwards (k % n) (n - k % n))) (filter (has_tile window) (upwards 0 (k % n))),
+      filter_le (has_tile window) (k % n) (n - k % n), filter_le (has_tile window) 0 (k % n))
