@@ -52,10 +52,6 @@ pub filter-below : (p : ℕ → Bool) (n a c : ℕ) → a + c ≤ n → AllByRec
 filter-below p n a zero within = tt
 filter-below p n a (suc c) within = kept_below p n a (filter p (upwards (a + 1) c)) (p a) (omega arith) (filter-below p n (a + 1) c (omega arith))
 
-
-
-
-
 kept_le : (p : ℕ → Bool) (x : ℕ) (rest : List ℕ) (b : Bool) (n : ℕ) → length rest ≤ n → length (cond b (x ∷ rest) rest) ≤ n + 1
 kept_le p x rest true n few = omega arith
 kept_le p x rest false n few = omega arith

@@ -78,5 +78,10 @@ pub length-expansion-le : (n k window : ℕ) → 0 < n → length (expansion n k
 length-expansion-le n k window some =
     let first : k % n < n = omega arith in
     let split = filter-append (has_tile window) (upwards (k % n) (n - k % n)) (upwards 0 (k % n)) in
-    omega (arith, ap length split, length-append (filter (has_tile window) (upwards (k % n) (n - k % n))) (filter (has_tile window) (upwards 0 (k % n))),
-      filter_le (has_tile window) (k % n) (n - k % n), filter_le (has_tile window) 0 (k % n))
+    omega (
+      arith,
+      ap length split,
+      length-append (filter (has_tile window) (upwards (k % n) (n - k % n))) (filter (has_tile window) (upwards 0 (k % n))),
+      filter_le (has_tile window) (k % n) (n - k % n),
+      filter_le (has_tile window) 0 (k % n),
+    )

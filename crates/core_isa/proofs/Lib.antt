@@ -1,0 +1,11 @@
+pub mod Scanning
+pub mod Digits
+pub mod Places
+pub mod Scopes
+pub mod Faults
+pub mod Progress
+pub mod RawLines
+pub mod Whole
+pub mod Words
+pub mod Printed
+pub mod RoundTrip

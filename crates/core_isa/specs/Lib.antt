@@ -1,0 +1,11 @@
+pub mod Program
+pub mod Lines
+pub mod Opcodes
+pub mod Operands
+pub mod Assembly
+pub mod Printing
+pub mod LineSeen
+pub mod LabelsSeen
+pub mod Reading
+pub mod OperandsSeen
+pub mod Rows

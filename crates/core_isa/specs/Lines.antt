@@ -1,0 +1,70 @@
+-- The lines of a text, their words and their labels. A text is the list of its bytes.
+use Rattle.std.specs.Prelude.{ℕ, ◌-◌, ◌==◌, Bool, false, not, ◌&&◌, ◌||◌, List, [], ◌∷◌, Option, Some, None, length, take, map, filter, count_by, slice_index, if◌then◌else◌, nat_lt}
+use Rattle.std.specs.List.{slice_split, before_first, list_all}
+use Rattle.std.specs.Char.{is_ascii_alphabetic, is_ascii_digit}
+
+-- a line feed ends a line
+abbrev pub is_line_feed : ℕ → Bool
+is_line_feed byte = byte == 10
+
+-- a `#` begins a comment, which ends with the line
+abbrev pub is_comment_sign : ℕ → Bool
+is_comment_sign byte = byte == 35
+
+-- a blank, a tab or a carriage return divides words
+unfoldable pub is_white : ℕ → Bool
+is_white byte = byte == 32 || byte == 9 || byte == 13
+
+abbrev pub is_filled : List ℕ → Bool
+is_filled word = not (length word == 0)
+
+-- the words of a line: the parts between its white bytes, of what stands before the comment
+unfoldable pub words_of : List ℕ → List (List ℕ)
+words_of raw = filter is_filled (slice_split is_white (before_first is_comment_sign raw))
+
+-- a line: the label that it bears, and its words besides the label, which are an instruction
+pub record Line : Type 0 where
+  pub label : Option (List ℕ)
+  pub words : List (List ℕ)
+
+-- a first word that ends in a colon is a label, without the colon
+abbrev pub is_label : List ℕ → Bool
+is_label word = slice_index word (length word - 1) == 58
+
+abbrev pub label_of : List ℕ → List ℕ
+label_of word = take (length word - 1) word
+
+abbrev pub line_with : List (List ℕ) → Line
+line_with [] = record { label = None; words = [] }
+line_with (word ∷ words) =
+    if is_label word
+    then record { label = Some (label_of word); words = words }
+    else record { label = None; words = word ∷ words }
+
+abbrev pub line_of : List ℕ → Line
+line_of raw = line_with (words_of raw)
+
+abbrev pub lines_with : List (List ℕ) → List Line
+lines_with raws = map line_of raws
+
+-- the lines of a text, from the first
+abbrev pub lines_of : List ℕ → List Line
+lines_of text = lines_with (slice_split is_line_feed text)
+
+-- a name is a letter or `_`, and then letters, digits or `_`
+abbrev pub begins_name : ℕ → Bool
+begins_name byte = is_ascii_alphabetic byte || byte == 95
+
+abbrev pub continues_name : ℕ → Bool
+continues_name byte = begins_name byte || is_ascii_digit byte
+
+abbrev pub is_name : List ℕ → Bool
+is_name [] = false
+is_name (byte ∷ bytes) = begins_name byte && list_all continues_name bytes
+
+-- a line with a word besides its label counts as an instruction, also where it is bad
+abbrev pub has_instruction : Line → Bool
+has_instruction line = nat_lt 0 (length line.words)
+
+abbrev pub instruction_count : List Line → ℕ
+instruction_count lines = count_by has_instruction lines

@@ -1,0 +1,4 @@
+use std::alloc::AllocError;
+
+/// Memory is wanting.
+pub type NoMemory = AllocError;

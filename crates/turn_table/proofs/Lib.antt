@@ -1,0 +1,11 @@
+pub mod Totals
+pub mod Changes
+pub mod Loading
+pub mod Acquiring
+pub mod Releasing
+pub mod Regrouping
+pub mod TurnTaking
+pub mod Dealing
+pub mod Weights
+pub mod Naming
+pub mod Gathering

@@ -1,0 +1,3 @@
+/// There was no memory for the table or its seats.
+#[derive(Clone, Copy, Debug, PartialEq, Eq)]
+pub struct NoMemory;
