@@ -1,3 +1,5 @@
 pub mod Limits
 pub mod Grid
 pub mod Mesh
+pub mod Ports
+pub mod PortSets
