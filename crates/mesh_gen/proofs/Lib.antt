@@ -1,1 +1,9 @@
 pub mod OneTile
+pub mod Coordinates
+pub mod Beside
+pub mod TreeEdges
+pub mod Serves
+pub mod Led
+pub mod Ancestors
+pub mod RouteHops
+pub mod TreeOuts

@@ -3,3 +3,5 @@ pub mod Grid
 pub mod Mesh
 pub mod Ports
 pub mod PortSets
+pub mod Routes
+pub mod Tree

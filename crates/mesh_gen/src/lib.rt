@@ -10,7 +10,9 @@ mod port;
 mod ports;
 mod refusals;
 mod request;
+mod routes;
 mod text;
+mod tree;
 mod words;
 
 pub use items::{Counts, Image, Items, Requests, Tiles};
@@ -22,7 +24,9 @@ pub use port::Port;
 pub use ports::Ports;
 pub use refusals::{NoChannel, NoMemory, NotEnabled, NotReady};
 pub use request::Request;
+pub use routes::route_laws;
 pub use text::Text;
+pub use tree::tree_laws;
 pub use words::Words;
 
 #[cfg(test)]

@@ -79,7 +79,7 @@ impl Mesh {
 
     // The tile's column.
     #[tactic(auto, unfolding(crate::specs::Grid::x_of))]
-    fn x(&self, t: u8) -> u8
+    pub(crate) fn x(&self, t: u8) -> u8
         ensures column { result ≡ x_of (grid self.now) t }
         ensures inside { result < self.now.cols }
     {
@@ -88,7 +88,7 @@ impl Mesh {
 
     // The tile's row.
     #[tactic(auto, unfolding(crate::specs::Grid::y_of))]
-    fn y(&self, t: u8) -> u8
+    pub(crate) fn y(&self, t: u8) -> u8
         requires { t < tiles (grid self.now) }
         ensures row { result ≡ y_of (grid self.now) t }
         ensures inside { result < self.now.rows }
