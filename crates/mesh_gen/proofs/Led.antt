@@ -93,11 +93,11 @@ first_edge g s r v p some inside reached side serves =
     let edge = edge_from g s r p side (covers_leaves g s r v p some inside reached serves) in
     let next = way_of g s edge.0 v (rw (ways_to-edge g s r edge.0 v p some edge.1, serves) (one_positive)) in
     record {
-        entered = edge.0;
-        next = next.0;
-        edge = edge.1;
-        serves = next.1;
-        nearer = served_nearer g s r v p edge.0 (beside g r p edge.0 some edge.1.next) serves
+      entered = edge.0;
+      next = next.0;
+      edge = edge.1;
+      serves = next.1;
+      nearer = served_nearer g s r v p edge.0 (beside g r p edge.0 some edge.1.next) serves;
     }
   where
     one_positive : 0 < 1

@@ -1,4 +1,5 @@
 pub mod OneTile
+pub mod Controllers
 pub mod Coordinates
 pub mod Beside
 pub mod TreeEdges

@@ -46,9 +46,10 @@ parent_of g s r out n some edge = rw (edge_side g s r out n some edge) (neighbou
 
 -- two edges into one router are one edge
 pub edge_once : (g : Grid) (s r : ℕ) (p : Port) (u : ℕ) (q : Port) (n : ℕ) → HasTiles g → Edge g s r p n → Edge g s u q n → (r ≡ u) × (p ≡ q)
-edge_once g s r p u q n some first second =
-    (cc (parent_of g s r p n some first, parent_of g s u q n some second),
-    sym (opposite-opposite p) ∙ ap opposite (sym (edge_side g s r p n some first) ∙ edge_side g s u q n some second) ∙ opposite-opposite q)
+edge_once g s r p u q n some first second = (
+  cc (parent_of g s r p n some first, parent_of g s u q n some second),
+  sym (opposite-opposite p) ∙ ap opposite (sym (edge_side g s r p n some first) ∙ edge_side g s u q n some second) ∙ opposite-opposite q,
+)
 
 -- no edge enters the source
 pub source_free : (g : Grid) (s r : ℕ) (p : Port) → HasTiles g → Edge g s r p s → ⊥
@@ -108,13 +109,13 @@ entered g s n some source inside other =
     let stands = beside g n side from.0 some from.1 in
     let edge = edge_of g s from.0 (opposite side) n (goes_back g s n side from.0 heads stands) (neighbour_back g n side from.0 some from.1) in
     record {
-        from = from.0;
-        out = opposite side;
-        edge = edge;
-        only = λ r p second. edge_once g s r p from.0 (opposite side) n some second edge;
-        parent = from.1;
-        inside = neighbour_inside g n side from.0 some from.1;
-        nearer = parent_nearer g s n side from.0 heads stands
+      from = from.0;
+      out = opposite side;
+      edge = edge;
+      only = λ r p second. edge_once g s r p from.0 (opposite side) n some second edge;
+      parent = from.1;
+      inside = neighbour_inside g n side from.0 some from.1;
+      nearer = parent_nearer g s n side from.0 heads stands;
     }
 
 -- ---- following parents leads to the source, in as many steps as there are hops
