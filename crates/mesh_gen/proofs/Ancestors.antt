@@ -1,6 +1,5 @@
 -- The routers from which a tree leads to a router stand on its way to the source.
 use Rattle.std.proofs.Common.{◌≡◌, ℕ, suc, zero, ◌<◌, refl, sym, subst, Option, Some, None}
-use Rattle.std.specs.Prelude.{option_and_then}
 use Rattle.std.proofs.lemmas.Bool.Decides.{nat_tests}
 use Rattle.std.proofs.Common.{arith}
 use Rattle.mesh_gen.specs.declared.port.Port.{Port}

@@ -1,13 +1,13 @@
 -- Neighbours, by their columns and rows.
-use Rattle.std.proofs.Common.{◌≡◌, ℕ, ◌+◌, ◌-◌, ◌<◌, ◌≤◌, Bool, true, false, refl, sym, ◌∙◌, ap, arith, Option, Some, None}
+use Rattle.std.proofs.Common.{◌≡◌, ℕ, ◌+◌, ◌-◌, ◌<◌, Bool, true, false, refl, arith, Some}
 use Rattle.std.specs.Prelude.{◌&&◌, nat_lt}
-use Rattle.std.proofs.lemmas.Bool.{ltb-true, lt-ltb, and_parts}
+use Rattle.std.proofs.lemmas.Bool.{ltb-true, lt-ltb}
 use Rattle.mesh_gen.specs.declared.port.Port.{Port}
 use Rattle.mesh_gen.specs.declared.port.Port.TheVariants.{L, E, W, N, S}
 use Rattle.mesh_gen.specs.Grid.{Grid, tiles, x_of, y_of, when, neighbour}
 use Rattle.mesh_gen.specs.Ports.{opposite}
 use Rattle.mesh_gen.specs.Routes.{HasTiles}
-use Rattle.mesh_gen.proofs.Coordinates.{At, x_below, y_below, in_grid, at_east, at_west, at_south, at_north, has_row_above, has_one_before}
+use Rattle.mesh_gen.proofs.Coordinates.{x_below, y_below, in_grid, at_east, at_west, at_south, at_north, has_row_above, has_one_before}
 
 when_some : (a b : Bool) (t n : ℕ) → when (a && b) t ≡ Some n → (a ≡ true) × (b ≡ true) × (t ≡ n)
 when_some true true t n is = (refl, refl, cc)

@@ -1,6 +1,6 @@
 -- Where the edges of a tree lead, and which tiles stand there by columns and rows.
 use Rattle.std.proofs.Common.{◌≡◌, ◌≢◌, ℕ, suc, zero, ◌+◌, ◌<◌, Bool, true, false, refl, sym, ap, subst, arith, Option, Some, None, ◌⊎◌, inl, inr}
-use Rattle.std.specs.Prelude.{◌&&◌, is_some, option_and_then}
+use Rattle.std.specs.Prelude.{is_some}
 use Rattle.std.proofs.lemmas.Bool.{and_parts, eqb-true, eq-eqb}
 use Rattle.std.proofs.lemmas.Bool.Decides.{nat_tests}
 use Rattle.mesh_gen.specs.declared.port.Port.{Port}
@@ -8,9 +8,8 @@ use Rattle.mesh_gen.specs.declared.port.Port.TheVariants.{L, E, W, N, S}
 use Rattle.mesh_gen.specs.Grid.{Grid, tiles, x_of, y_of, neighbour, distance}
 use Rattle.mesh_gen.specs.Ports.{count_if}
 use Rattle.mesh_gen.specs.Routes.{HasTiles}
-use Rattle.mesh_gen.specs.Tree.{leaves_by, covers, ways_to, tree_parent, ancestor, Edge, Leads, here, there}
+use Rattle.mesh_gen.specs.Tree.{leaves_by, covers, ways_to, Edge, Leads, here, there}
 use Rattle.mesh_gen.proofs.Beside.{Beside, beside, neighbour_inside}
-use Rattle.mesh_gen.proofs.TreeEdges.{parent_of, entered}
 use Rattle.mesh_gen.proofs.Serves.{ways_to-edge, covers_leaves}
 
 -- a port that serves a tile is one way to it

@@ -8,3 +8,4 @@ pub mod Led
 pub mod Ancestors
 pub mod RouteHops
 pub mod TreeOuts
+pub mod PortBits

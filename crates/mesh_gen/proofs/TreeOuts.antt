@@ -1,11 +1,11 @@
 -- The ports of a tree as the bits of a set.
-use Rattle.std.proofs.Common.{◌≡◌, ℕ, ◌+◌, ◌*◌, Bool, true, false, refl}
+use Rattle.std.proofs.Common.{◌<◌, ◌≤◌, arith, ◌≡◌, ℕ, ◌+◌, ◌*◌, Bool, true, false, refl}
 use Rattle.std.specs.Prelude.{if◌then◌else◌}
 use Rattle.std.specs.Int.RustNames.{bit_or}
 use Rattle.mesh_gen.specs.declared.port.Port.{Port}
 use Rattle.mesh_gen.specs.declared.port.Port.TheVariants.{L, E, W, N, S}
 use Rattle.mesh_gen.specs.Grid.{Grid}
-use Rattle.mesh_gen.specs.Ports.{has, mask, count_if, ports_where}
+use Rattle.mesh_gen.specs.Ports.{has, count_if}
 use Rattle.mesh_gen.specs.Tree.{leaves_by, tree_outs}
 
 -- L, and each side where a test holds
@@ -58,3 +58,11 @@ has-tree_outs g s r E = has_bits (leaves_by g s r E) (leaves_by g s r W) (leaves
 has-tree_outs g s r W = has_bits (leaves_by g s r E) (leaves_by g s r W) (leaves_by g s r N) (leaves_by g s r S) W
 has-tree_outs g s r N = has_bits (leaves_by g s r E) (leaves_by g s r W) (leaves_by g s r N) (leaves_by g s r S) N
 has-tree_outs g s r S = has_bits (leaves_by g s r E) (leaves_by g s r W) (leaves_by g s r N) (leaves_by g s r S) S
+
+count_if_small : (holds : Bool) → count_if holds ≤ 1
+count_if_small true = omega arith
+count_if_small false = omega arith
+
+pub tree_outs_below : (g : Grid) (s r : ℕ) → tree_outs g s r < 32
+unfolding tree_outs
+tree_outs_below g s r = omega (arith, count_if_small (leaves_by g s r E), count_if_small (leaves_by g s r W), count_if_small (leaves_by g s r N), count_if_small (leaves_by g s r S))

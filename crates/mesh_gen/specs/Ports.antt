@@ -11,6 +11,10 @@ port_number W = 2
 port_number N = 3
 port_number S = 4
 
+-- whether two ports are one
+abbrev pub same_port : Port → Port → Bool
+same_port p q = port_number p == port_number q
+
 -- the port at which the neighbour on a side takes in what leaves by that side
 abbrev pub opposite : Port → Port
 opposite L = L

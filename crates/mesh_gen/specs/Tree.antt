@@ -1,5 +1,5 @@
 -- The tree by which a request of a source reaches every router: along the source's row, and from there along each column.
-use Rattle.std.specs.Prelude.{◌≡◌, ℕ, zero, suc, ◌+◌, ◌<◌, nat_lt, nat_le, Bool, true, ◌==◌, ◌&&◌, Option, Some, None, is_some, option_and_then}
+use Rattle.std.specs.Prelude.{◌≡◌, ℕ, zero, suc, ◌+◌, ◌<◌, nat_lt, nat_le, Bool, true, ◌==◌, ◌&&◌, Option, Some, is_some, option_and_then}
 use Rattle.mesh_gen.specs.declared.port.Port.{Port}
 use Rattle.mesh_gen.specs.declared.port.Port.TheVariants.{L, E, W, N, S}
 use Rattle.mesh_gen.specs.Grid.{Grid, tiles, x_of, y_of, neighbour, distance}

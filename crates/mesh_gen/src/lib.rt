@@ -21,7 +21,7 @@ pub use mesh::Mesh;
 pub use msg::Msg;
 pub use msg_kind::MsgKind;
 pub use port::Port;
-pub use ports::Ports;
+pub use ports::{Ports, port_set_laws};
 pub use refusals::{NoChannel, NoMemory, NotEnabled, NotReady};
 pub use request::Request;
 pub use routes::route_laws;

@@ -1,4 +1,5 @@
-ghost use Rattle.std.specs.Prelude.{⊤, ◌≡◌, [], ◌∷◌, codes};
+ghost use Rattle.std.specs.Prelude.{⊤, ◌≡◌, ◌<◌, ℕ, ◌&&◌, not, true, false, [], ◌∷◌, codes};
+ghost use Rattle.mesh_gen.specs.Ports.{has, without_port, same_port};
 
 use crate::Port;
 use bitflags::{Flag, Flags, bitflag_items};
@@ -42,7 +43,7 @@ impl Flags for Ports {
 }
 
 impl Ports {
-    ghost use Rattle.mesh_gen.specs.Ports.{mask, has, without_port};
+    ghost use Rattle.mesh_gen.specs.Ports.{mask};
     ghost use Rattle.mesh_gen.specs.PortSets.{bits_of};
 
     /// The set of one port.
@@ -74,3 +75,12 @@ impl Ports {
         self.difference(Ports::only(port))
     }
 }
+
+/// The laws of sets of ports, by their bits. At run time it does nothing.
+pub fn port_set_laws()
+    ensures empty { (port : Port) → has 0 port ≡ false }
+    ensures some { (ports : ℕ) → ports < 32 → 0 < ports → (port : Port) × (has ports port ≡ true) }
+    ensures without { (ports : ℕ) (port gone : Port) → ports < 32
+        → has (without_port ports gone) port ≡ (has ports port && not (same_port port gone)) }
+    ensures small { (ports : ℕ) (gone : Port) → ports < 32 → without_port ports gone < 32 }
+{}

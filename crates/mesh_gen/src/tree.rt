@@ -47,6 +47,7 @@ impl Mesh {
         requires source { s < tiles (grid self.now) }
         requires router { r < tiles (grid self.now) }
         ensures bits { bits_of result ≡ tree_outs (grid self.now) s r }
+        ensures small { bits_of result < 32 }
         ensures ports { (port : Port) → has (bits_of result) port ≡ leaves_by (grid self.now) s r port }
     {
         Ports::L
