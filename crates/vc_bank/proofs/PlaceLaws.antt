@@ -1,10 +1,12 @@
 -- The channels of all routers, read and changed by their places.
-use Rattle.std.proofs.Common.{◌≡◌, ◌≢◌, ◌⊎◌, ℕ, zero, suc, ◌+◌, ◌<◌, ◌≤◌, refl, sym, ◌∙◌, ap, subst, arith, inl, inr, ⊎_elim, Option, Some, None, List, [], ◌∷◌, length, set, get_or, get_or-set_same, get_or-set_other}
+use Rattle.std.proofs.Common.{◌≡◌, ◌≢◌, ◌⊎◌, ℕ, zero, suc, ◌+◌, ◌<◌, ◌≤◌, refl, sym, ◌∙◌, ap, subst, arith, inl, inr, ⊎_elim, Option, Some, None, List, [], ◌∷◌, length, length-set, set, get_or, get_or-set_same, get_or-set_other}
 use Rattle.std.specs.Prelude.{Bool, replicate, if◌then◌else◌}
+use Rattle.std.specs.List.{sum_by}
 use Rattle.std.proofs.lemmas.Bool.{cases_eq}
+use Rattle.std.proofs.lemmas.List.Sums.{sum_by-cons}
 use Rattle.std.proofs.Math.Nat.{zero-add}
 use Rattle.vc_bank.specs.Channels.{Channels, slots_at, packet_at, with_packet, empty_channels}
-use Rattle.vc_bank.specs.Places.{Network, slots, at, put, HasPlace, sum_from, weight, weigh}
+use Rattle.vc_bank.specs.Places.{Network, slots, at, put, HasPlace, sum_from, weight, weigh, slot_count}
 use Rattle.vc_bank.proofs.SlotWrites.{outer_within, held_within, packet_at-written, packet_at-other, length-slots_at-with_packet}
 use Rattle.vc_bank.proofs.Weights.{sum_from-set, sum_from-found_at, sum_from-add, sum_from-le}
 
@@ -170,6 +172,37 @@ weigh-le f g below network =
     weight_le : {P : Type 0} (f g : P → ℕ) → ((packet : P) → f packet ≤ g packet) → (packet : Option P) → weight f packet ≤ weight g packet
     weight_le f g below None = omega arith
     weight_le f g below (Some packet) = below packet
+
+-- ---- sums of weights, and how many slots there are
+
+-- the sum over several weights is the weight that is their sum
+pub weigh-sum_by : {P X : Type 0} (f : X → ℕ → ℕ → ℕ → P → ℕ) (network : Network P) (names : List X) → sum_by (λ name. weigh (f name) network) names ≡ weigh (λ r p i packet. sum_by (λ name. f name r p i packet) names) network
+weigh-sum_by f network [] = sym (weigh_none (λ r p i packet. sum_by (λ name. f name r p i packet) []) network (λ r p i packet stands. refl))
+weigh-sum_by f network (name ∷ names) =
+    let rest = weigh-sum_by f network names in
+    let parts = weigh-add (λ r p i packet. sum_by (λ other. f other r p i packet) (name ∷ names)) (f name) (λ r p i packet. sum_by (λ other. f other r p i packet) names)
+    (λ r p i packet. sum_by-cons (λ other. f other r p i packet) name names) network in
+    omega (arith, sum_by-cons (λ other. weigh (f other) network) name names)
+
+-- where each packet weighs at most one, the whole weighs at most as much as there are slots
+pub weigh-slot_count : {P : Type 0} (f : ℕ → ℕ → ℕ → P → ℕ) → ((r p i : ℕ) (packet : P) → f r p i packet ≤ 1) → (network : Network P) → weigh f network ≤ slot_count network
+unfolding weigh
+weigh-slot_count f light network =
+    sum_from-le _ _ (λ r bank. sum_from-le _ _ (λ p slots. weight_length (f r p) (light r p) 0 slots) 0 bank) 0 network
+  where
+    weight_length : {P : Type 0} (f : ℕ → P → ℕ) → ((i : ℕ) (packet : P) → f i packet ≤ 1) → (n : ℕ) (slots : List (Option P)) → sum_from (λ slot packet. weight (f slot) packet) n slots ≤ length slots
+    weight_length f light n [] = omega arith
+    weight_length f light n (None ∷ slots) = omega (arith, weight_length f light (suc n) slots)
+    weight_length f light n (Some packet ∷ slots) = omega (arith, light n packet, weight_length f light (suc n) slots)
+
+-- a write keeps the number of slots
+pub slot_count-put : {P : Type 0} (network : Network P) (r p i : ℕ) (packet : Option P) → HasPlace network r p i → slot_count (put network r p i packet) ≡ slot_count network
+unfolding put slots
+slot_count-put network r p i packet inside =
+    let bank = get_or network r [] in
+    let all = sum_from-set (λ router bank. sum_from (λ port slots. length slots) 0 bank) 0 network r (with_packet bank p i packet) [] (bank_within network r p i inside) in
+    let ports = sum_from-set (λ port slots. length slots) 0 bank p (set (slots_at bank p) i packet) [] (outer_within bank p i inside) in
+    omega (arith, length-set (slots_at bank p) i packet)
 
 -- ---- the channels of a router, as a call on its bank reads and changes them
 pub at-bank : {P : Type 0} (network : Network P) (bank : Channels P) (r p i : ℕ) → bank ≡ get_or network r [] → packet_at bank p i ≡ at network r p i

@@ -1,5 +1,5 @@
 -- The channels of one router: for each port, by its number, the list of its slots, each empty or with one packet.
-use Rattle.std.specs.Prelude.{◌≡◌, ◌≢◌, ◌⊎◌, ◌<◌, ℕ, ◌+◌, Bool, true, false, List, [], ◌∷◌, length, take, replicate, Option, Some, None, is_none, slice_get, slice_index_or, slice_set, if◌then◌else◌}
+use Rattle.std.specs.Prelude.{◌≡◌, ◌≢◌, ◌⊎◌, ◌<◌, ℕ, ◌+◌, Bool, false, List, [], ◌∷◌, length, take, replicate, Option, Some, None, is_none, slice_get, slice_index_or, slice_set, if◌then◌else◌}
 use Rattle.std.specs.List.{position}
 
 abbrev pub Channels : Type 0 → Type 0

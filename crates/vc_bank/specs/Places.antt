@@ -34,3 +34,7 @@ weight f (Some packet) = f packet
 -- the weights of all packets, each by its router, port and slot
 unfoldable pub weigh : {P : Type 0} → (ℕ → ℕ → ℕ → P → ℕ) → Network P → ℕ
 weigh f network = sum_from (λ router bank. sum_from (λ port slots. sum_from (λ slot packet. weight (f router port slot) packet) 0 slots) 0 bank) 0 network
+
+-- how many slots there are
+abbrev pub slot_count : {P : Type 0} → Network P → ℕ
+slot_count network = sum_from (λ router bank. sum_from (λ port slots. length slots) 0 bank) 0 network
