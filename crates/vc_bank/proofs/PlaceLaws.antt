@@ -96,7 +96,7 @@ weigh-put f network r p i packet inside =
     let own_here = rw (zero-add i) at own in
     omega arith
 
--- a packet that stands somewhere weighs at most the whole
+-- taking a packet out takes its weight off the whole
 pub weigh_at : {P : Type 0} (f : ℕ → ℕ → ℕ → P → ℕ) (network : Network P) (r p i : ℕ) (packet : P) → at network r p i ≡ Some packet → weigh f (put network r p i None) + f r p i packet ≡ weigh f network
 weigh_at f network r p i packet stands =
     let change : weigh f (put network r p i None) + f r p i packet ≡ weigh f network + 0 =
