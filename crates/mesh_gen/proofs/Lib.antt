@@ -1,4 +1,13 @@
-pub mod Coordinates
-pub mod Distances
 pub mod OneTile
+pub mod Controllers
+pub mod Coordinates
+pub mod Beside
+pub mod Distances
 pub mod TileSets
+pub mod TreeEdges
+pub mod Serves
+pub mod Led
+pub mod Ancestors
+pub mod RouteHops
+pub mod TreeOuts
+pub mod PortBits

@@ -1,5 +1,5 @@
 -- The mesh of a chip.
-use Rattle.std.specs.Prelude.{◌≡◌, ℕ, [], ◌∷◌}
+use Rattle.std.specs.Prelude.{◌≡◌, ℕ, ◌%◌, [], ◌∷◌, length, slice_index}
 use Rattle.mesh_gen.specs.declared.mesh.Mesh.{Mesh}
 use Rattle.mesh_gen.specs.Grid.{Grid}
 
@@ -18,3 +18,7 @@ pub record HasSize (cols rows window : ℕ) (mesh : Mesh) : Type 0 where
   pub sets_is : mesh.sets ≡ 4
   pub ways_is : mesh.ways ≡ 1
   pub controllers_is : mesh.controllers ≡ 0 ∷ []
+
+-- the tile whose controller keeps a line: the lines go round the controllers
+abbrev pub home : Mesh → ℕ → ℕ
+home mesh line = slice_index mesh.controllers (line % length mesh.controllers)

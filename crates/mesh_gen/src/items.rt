@@ -1,5 +1,6 @@
 ghost use Rattle.std.specs.Prelude.{◌≡◌};
 
+use crate::Request;
 use std::marker::Model;
 
 /// A list, as a field of a public struct: contracts see its items and not where they lie in memory.
@@ -13,6 +14,12 @@ pub type Tiles = Items<u8>;
 
 /// Words of memory, from address 0 on.
 pub type Image = Items<u32>;
+
+/// Requests, in an order.
+pub type Requests = Items<Request>;
+
+/// Counts, one for each tile.
+pub type Counts = Items<u64>;
 
 impl<T> Model for Items<T> {
     ghost use Rattle.std.specs.Prelude.{List};

@@ -2,16 +2,32 @@
 #![tactic(auto)]
 
 mod items;
+mod kind;
 mod mesh;
+mod msg;
+mod msg_kind;
 mod port;
+mod ports;
 mod refusals;
+mod request;
+mod routes;
 mod text;
+mod tree;
+mod words;
 
-pub use items::{Image, Items, Tiles};
+pub use items::{Counts, Image, Items, Requests, Tiles};
+pub use kind::Kind;
 pub use mesh::Mesh;
+pub use msg::Msg;
+pub use msg_kind::MsgKind;
 pub use port::Port;
+pub use ports::{Ports, port_set_laws};
 pub use refusals::{NoChannel, NoMemory, NotEnabled, NotReady};
+pub use request::Request;
+pub use routes::route_laws;
 pub use text::Text;
+pub use tree::tree_laws;
+pub use words::Words;
 
 #[cfg(test)]
 mod tests;

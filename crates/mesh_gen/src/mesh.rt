@@ -37,9 +37,10 @@ pub struct Mesh {
 }
 
 impl Mesh {
-    ghost use Rattle.std.specs.Prelude.{IfOk};
+    ghost use Rattle.std.specs.Prelude.{IfOk, Contains};
     ghost use Rattle.mesh_gen.specs.Grid.{tiles, x_of, y_of, diameter, distance, neighbour};
-    ghost use Rattle.mesh_gen.specs.Mesh.{grid, HasSize};
+    ghost use Rattle.mesh_gen.specs.Mesh.{grid, home, HasSize};
+    ghost use Rattle.mesh_gen.specs.Routes.{HasTiles};
 
     /// A mesh of these sizes, whose other fields have their defaults: one channel of each kind a port, 16 lines, 4 sets
     /// of one way, and one controller, at tile 0.
@@ -66,6 +67,7 @@ impl Mesh {
     pub fn tiles(&self) -> u8
         ensures tiles { result ≡ tiles (grid self.now) }
         ensures limits { IsFrom 1 36 result }
+        ensures some { HasTiles (grid self.now) }
     {
         self.cols * self.rows
     }
@@ -79,7 +81,7 @@ impl Mesh {
 
     // The tile's column.
     #[tactic(auto, unfolding(crate::specs::Grid::x_of))]
-    fn x(&self, t: u8) -> u8
+    pub(crate) fn x(&self, t: u8) -> u8
         ensures column { result ≡ x_of (grid self.now) t }
         ensures inside { result < self.now.cols }
     {
@@ -88,7 +90,7 @@ impl Mesh {
 
     // The tile's row.
     #[tactic(auto, unfolding(crate::specs::Grid::y_of))]
-    fn y(&self, t: u8) -> u8
+    pub(crate) fn y(&self, t: u8) -> u8
         requires { t < tiles (grid self.now) }
         ensures row { result ≡ y_of (grid self.now) t }
         ensures inside { result < self.now.rows }
@@ -119,5 +121,16 @@ impl Mesh {
             Port::N => (self.y(r) > 0).then_some(r.saturating_sub(self.cols)),
             Port::S => (self.y(r) + 1 < self.rows).then_some(r + self.cols),
         }
+    }
+
+    /// The tile whose memory controller keeps a line: the lines go round the controllers.
+    pub fn home(&self, line: u16) -> u8
+        requires { line < self.now.lines }
+        ensures home { result ≡ home self.now line }
+        ensures controller { Contains self.now.controllers result }
+        ensures tile { result < tiles (grid self.now) }
+    {
+        let controllers = self.controllers.as_slice();
+        controllers[usize::from(line) % controllers.len()]
     }
 }

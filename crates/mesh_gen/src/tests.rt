@@ -1,4 +1,10 @@
+ghost use Rattle.std.specs.Prelude.{◌<◌};
+ghost use Rattle.mesh_gen.specs.Grid.{tiles};
+ghost use Rattle.mesh_gen.specs.Mesh.{grid};
+
 use super::*;
+use bitflags::Flags;
+use std::alloc::{AllocError, Global};
 use std::test::Fail;
 
 #[test]
@@ -40,5 +46,71 @@ fn lists_and_texts_keep_what_they_were_made_of(rt: HostRuntime) -> Result<(), Fa
     let text = Text::new(String::from_str(alloc, "mesh")?);
     assert_eq!(rt; text.as_str(), "mesh");
     assert_eq!(rt; text.into_string().as_str(), "mesh");
+    Ok(())
+}
+
+#[test]
+fn a_request_spreads_from_the_middle_of_the_mesh(rt: HostRuntime) -> Result<(), Fail> {
+    let mesh = Mesh::of_size(rt.alloc(), 3, 3, 4)?;
+    let column = Ports::L.union(Ports::N).union(Ports::S);
+    assert_eq!(rt;
+        mesh.tree_outs(4, 4),
+        column.union(Ports::E).union(Ports::W)
+    );
+    assert_eq!(rt; mesh.tree_outs(4, 3), column);
+    assert_eq!(rt; mesh.tree_outs(4, 1), Ports::L);
+    assert_eq!(rt; mesh.tree_parent(4, 0), Some(3));
+    assert_eq!(rt; mesh.tree_parent(4, 4), None);
+    assert_eq!(rt; mesh.home(15), 0);
+    Ok(())
+}
+
+// The routers that a walk along the tree of `source` comes to, one for each edge. It ends after as many routers as the
+// mesh has.
+fn walk(alloc: Global, mesh: &Mesh, source: u8) -> Result<Vec<u8>, AllocError>
+    requires { source < tiles (grid mesh.now) }
+{
+    let mut reached = Vec::from_slice(alloc, &[source])?;
+    for step in 0..usize::from(mesh.tiles()) {
+        let router = reached.get(step).copied().unwrap_or(source);
+        if router < mesh.tiles() {
+            let outs = mesh.tree_outs(source, router);
+            for side in [Port::E, Port::W, Port::N, Port::S] {
+                if let Some(next) = mesh.neighbour(router, side).filter(|_| outs.has(side)) {
+                    reached.push(next)?;
+                }
+            }
+        }
+    }
+    Ok(reached)
+}
+
+// The first source whose walk does not come to each router once.
+fn first_unspanned(alloc: Global, mesh: &Mesh) -> Result<Option<u8>, AllocError> {
+    let mut every = Vec::new(alloc);
+    for router in 0..mesh.tiles() {
+        every.push(router)?;
+    }
+    for source in 0..mesh.tiles() {
+        let mut reached = walk(alloc, mesh, source)?;
+        reached.sort_unstable();
+        if reached.as_slice() != every.as_slice() {
+            return Ok(Some(source));
+        }
+    }
+    Ok(None)
+}
+
+#[test]
+fn every_tree_comes_to_each_router_once(rt: HostRuntime) -> Result<(), Fail> {
+    let alloc = rt.alloc();
+    assert_eq!(rt;
+        first_unspanned(alloc, &Mesh::of_size(alloc, 3, 3, 4)?)?,
+        None
+    );
+    assert_eq!(rt;
+        first_unspanned(alloc, &Mesh::of_size(alloc, 6, 6, 10)?)?,
+        None
+    );
     Ok(())
 }

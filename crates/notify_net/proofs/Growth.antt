@@ -5,7 +5,7 @@ use Rattle.std.proofs.lemmas.Bool.{cases_lt, or_cases, le-leb, leb-true, true≢
 use Rattle.mesh_gen.specs.declared.port.Port.{Port}
 use Rattle.mesh_gen.specs.declared.port.Port.TheVariants.{L, E, W, N, S}
 use Rattle.mesh_gen.specs.Grid.{Grid, tiles, distance, neighbour}
-use Rattle.mesh_gen.proofs.Coordinates.{HasTiles}
+use Rattle.mesh_gen.specs.Routes.{HasTiles}
 use Rattle.mesh_gen.proofs.Distances.{nearer, distance-neighbour}
 
 -- whether s is at most k hops from a tile, where there is one

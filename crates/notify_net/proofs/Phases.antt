@@ -9,7 +9,9 @@ use Rattle.mesh_gen.specs.declared.port.Port.{Port}
 use Rattle.mesh_gen.specs.declared.port.Port.TheVariants.{E, W, N, S}
 use Rattle.mesh_gen.specs.Grid.{Grid, tiles, distance, neighbour}
 use Rattle.mesh_gen.specs.TileSet.{has_tile, is_among}
-use Rattle.mesh_gen.proofs.Coordinates.{HasTiles, has_tiles, inside-neighbour}
+use Rattle.mesh_gen.specs.Routes.{HasTiles}
+use Rattle.mesh_gen.proofs.Beside.{neighbour_inside}
+use Rattle.mesh_gen.proofs.Coordinates.{has_tiles}
 use Rattle.mesh_gen.proofs.Distances.{distance-same, apart}
 use Rattle.mesh_gen.proofs.TileSets.{has_tile-or, has_tile-one, has_tile-none, has_tile-set_of, same_sets, is_among-filter, is_among-push, among_all, AllByRecursion-push}
 use Rattle.notify_net.specs.Latches.{LatchState, posted, latch_of, taken_in, Ticks}
@@ -73,7 +75,7 @@ IsAtPhase-post g posts t s inside at =
 beside_holds : (g : Grid) (posts : List ℕ) (k : ℕ) (old : LatchState) (t : ℕ) (p : Port) (o : Option ℕ) (s : ℕ) → HasTiles g → t < tiles g → IsAtPhase g posts k old
     → neighbour g t p ≡ o → has_tile (latch_of old o) s ≡ (is_among posts s && is_near g s k o)
 beside_holds g posts k old t p None s has inside at is = has_tile-none s ∙ sym (and-false (is_among posts s))
-beside_holds g posts k old t p (Some n) s has inside at is = rw (at.each n (inside-neighbour g t p n has inside is)) (has_tile-merged g posts k n s)
+beside_holds g posts k old t p (Some n) s has inside at is = rw (at.each n (neighbour_inside g t p n has is)) (has_tile-merged g posts k n s)
 
 spread : (a own e w n s : Bool) → any_of (a && own) (a && e) (a && w) (a && n) (a && s) ≡ (a && any_of own e w n s)
 spread true own e w n s = refl

@@ -6,7 +6,8 @@ use Rattle.mesh_gen.specs.declared.port.Port.{Port}
 use Rattle.mesh_gen.specs.declared.port.Port.TheVariants.{E, W, N, S}
 use Rattle.mesh_gen.specs.Grid.{Grid, tiles, neighbour}
 use Rattle.mesh_gen.specs.TileSet.{has_tile}
-use Rattle.mesh_gen.proofs.Coordinates.{has_tiles, inside-neighbour}
+use Rattle.mesh_gen.proofs.Beside.{neighbour_inside}
+use Rattle.mesh_gen.proofs.Coordinates.{has_tiles}
 use Rattle.mesh_gen.proofs.TileSets.{has_tile-none, same_sets}
 use Rattle.notify_net.specs.declared.links.Sides.{Sides}
 use Rattle.notify_net.specs.Latches.{LatchState, latch_of, taken_in, Ticks}
@@ -18,7 +19,7 @@ use Rattle.notify_net.proofs.Phases.{has_tile-union}
 
 beside_below : (g : Grid) (t : ℕ) (p : Port) (o : Option ℕ) → t < tiles g → neighbour g t p ≡ o → unwrap_or o t < tiles g
 beside_below g t p None inside is = inside
-beside_below g t p (Some n) inside is = inside-neighbour g t p n (has_tiles g t inside) inside is
+beside_below g t p (Some n) inside is = neighbour_inside g t p n (has_tiles g t inside) is
 
 AreBelow-sides_of : (g : Grid) (t : ℕ) → t < tiles g → AreBelow (tiles g) (sides_of g t)
 AreBelow-sides_of g t inside =

@@ -5,14 +5,14 @@ use Rattle.std.specs.List.{AllByRecursion}
 use Rattle.std.proofs.lemmas.Bool.{le-leb}
 use Rattle.mesh_gen.specs.Grid.{Grid, tiles, distance, diameter}
 use Rattle.mesh_gen.specs.TileSet.{set_of}
-use Rattle.mesh_gen.proofs.Coordinates.{HasTiles, has_tiles, x_below, y_below}
+use Rattle.mesh_gen.proofs.Coordinates.{has_tiles, x_below, y_below}
 use Rattle.notify_net.specs.Merge.{merged}
 
 -- no two tiles are farther apart than the diameter
 distance-le-diameter : (g : Grid) (a b : ℕ) → a < tiles g → b < tiles g → distance g a b ≤ diameter g
 distance-le-diameter g a b inside_a inside_b =
     let has = has_tiles g a inside_a in
-    omega (arith, x_below g a has.some_cols, x_below g b has.some_cols, y_below g a has.some_cols inside_a, y_below g b has.some_cols inside_b)
+    omega (arith, x_below g a has, x_below g b has, y_below g a has inside_a, y_below g b has inside_b)
 
 all_kept : (p : ℕ → Bool) (list : List ℕ) → AllByRecursion (λ s. p s ≡ true) list → filter p list ≡ list
 all_kept p [] all = refl

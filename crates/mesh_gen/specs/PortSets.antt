@@ -1,0 +1,9 @@
+-- The type of sets of ports, by their bits.
+use Rattle.std.specs.Prelude.{ℕ}
+use Rattle.mesh_gen.specs.declared.ports.Ports.{Ports}
+
+abbrev pub bits_of : Ports → ℕ
+bits_of ports = ports.0
+
+abbrev pub ports_of : ℕ → Ports
+ports_of bits = record { 0 = bits }

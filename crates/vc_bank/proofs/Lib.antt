@@ -1,0 +1,4 @@
+pub mod FreeSlots
+pub mod SlotWrites
+pub mod Weights
+pub mod PlaceLaws

@@ -1,0 +1,6 @@
+use Rattle.mesh_gen.specs.Ports.{port_number}
+use Rattle.vc_bank.proofs.SlotWrites.{written_only, free_within}
+use Rattle.vc_bank.proofs.bank.Bank.put.Goals as goal
+
+pub returns-clause-only : goal.returns-clause-only
+returns-clause-only g c = written_only _ _ _ _ _ c.set.ensures (free_within c.args.self.now (port_number c.args.port) c.args.slot c.requires)

@@ -1,0 +1,10 @@
+//! The channels of a router: five ports with slots for packets.
+#![tactic(auto)]
+
+mod bank;
+mod slots;
+
+pub use bank::Bank;
+
+#[cfg(test)]
+mod tests;
