@@ -9,3 +9,4 @@ pub mod Whole
 pub mod Words
 pub mod Printed
 pub mod RoundTrip
+pub mod CoreSteps

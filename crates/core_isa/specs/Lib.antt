@@ -9,3 +9,5 @@ pub mod LabelsSeen
 pub mod Reading
 pub mod OperandsSeen
 pub mod Rows
+pub mod Core
+pub mod CoreRows
