@@ -1,5 +1,5 @@
 -- The mesh of a chip.
-use Rattle.std.specs.Prelude.{◌≡◌, ℕ, ◌%◌, [], ◌∷◌, length, slice_index}
+use Rattle.std.specs.Prelude.{◌≡◌, ℕ, ◌%◌, List, [], ◌∷◌, length, slice_index}
 use Rattle.mesh_gen.specs.declared.mesh.Mesh.{Mesh}
 use Rattle.mesh_gen.specs.Grid.{Grid}
 
@@ -19,6 +19,9 @@ pub record HasSize (cols rows window : ℕ) (mesh : Mesh) : Type 0 where
   pub ways_is : mesh.ways ≡ 1
   pub controllers_is : mesh.controllers ≡ 0 ∷ []
 
--- the tile whose controller keeps a line: the lines go round the controllers
+-- the tile whose controller keeps a line: the lines go round the tiles with a controller
+abbrev pub home_among : List ℕ → ℕ → ℕ
+home_among controllers line = slice_index controllers (line % length controllers)
+
 abbrev pub home : Mesh → ℕ → ℕ
-home mesh line = slice_index mesh.controllers (line % length mesh.controllers)
+home mesh line = home_among mesh.controllers line
