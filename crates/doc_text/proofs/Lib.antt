@@ -1,0 +1,4 @@
+pub mod ShownWords
+pub mod SomeTiles
+pub mod Writes
+pub mod Pieces

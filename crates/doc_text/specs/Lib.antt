@@ -1,0 +1,5 @@
+pub mod Canonical
+pub mod Doc
+pub mod Keys
+pub mod Limits
+pub mod Rows
