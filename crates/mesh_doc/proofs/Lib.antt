@@ -1,0 +1,16 @@
+pub mod Accepted
+pub mod Assembled
+pub mod Cores
+pub mod Defaults
+pub mod Described
+pub mod Distinct
+pub mod Firsts
+pub mod Items
+pub mod Limits
+pub mod Numbers
+pub mod Placing
+pub mod Ranges
+pub mod Repeats
+pub mod Shapes
+pub mod Whole
+pub mod Written

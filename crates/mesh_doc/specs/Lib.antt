@@ -1,0 +1,9 @@
+pub mod Faults
+pub mod Laws
+pub mod MeshSeen
+pub mod Reading
+pub mod Rows
+pub mod Said
+pub mod Seen
+pub mod Tables
+pub mod Values
