@@ -1,0 +1,10 @@
+pub mod Packing
+pub mod Pieces
+pub mod Sections
+pub mod Fronts
+pub mod Numbers
+pub mod Words
+pub mod Said
+pub mod EventLines
+pub mod ReadLines
+pub mod ReadBack

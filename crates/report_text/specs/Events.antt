@@ -1,0 +1,55 @@
+-- The table of the events: the word of each kind, its number in a packed word, and what it names. The text and the packed
+-- word of an event follow from it. A new kind of event has a line here, and one in each match of `Event`.
+use Rattle.std.specs.Prelude.{◌≢◌, ℕ, ◌≤◌, List, [], ◌∷◌, codes, decimal}
+use Rattle.mesh_gen.specs.declared.port.Port.{Port}
+use Rattle.mesh_gen.specs.declared.port.Port.TheVariants.{L, E, W, N, S}
+use Rattle.report_text.specs.declared.event.Event.{Event}
+use Rattle.report_text.specs.declared.event.Event.TheVariants.{Tick, Core, Inject, Post, Take, Eject, Send, Hop, DataHop, DataEject}
+use Rattle.report_text.specs.declared.operands.Operands.{Operands}
+use Rattle.report_text.specs.declared.operands.Operands.TheVariants.{Nothing, Tile, Channel, Way}
+
+pub record Form : Type 0 where
+  pub word : List ℕ
+  pub number : ℕ
+  pub operands : Operands
+
+-- the table
+abbrev pub form_of : Event → Form
+form_of Tick = record { word = codes "tick"; number = 0; operands = Nothing }
+form_of (Core t) = record { word = codes "core"; number = 1; operands = Tile t }
+form_of (Inject t) = record { word = codes "inject"; number = 2; operands = Tile t }
+form_of (Post t) = record { word = codes "post"; number = 3; operands = Tile t }
+form_of (Take t) = record { word = codes "take"; number = 4; operands = Tile t }
+form_of (Eject t) = record { word = codes "eject"; number = 5; operands = Tile t }
+form_of (Send t) = record { word = codes "send"; number = 6; operands = Tile t }
+form_of (Hop r port slot out) = record { word = codes "hop"; number = 7; operands = Way r port slot out }
+form_of (DataHop r port slot) = record { word = codes "datahop"; number = 8; operands = Channel r port slot }
+form_of (DataEject r port slot) = record { word = codes "dataeject"; number = 9; operands = Channel r port slot }
+
+abbrev pub port_word : Port → List ℕ
+port_word L = codes "l"
+port_word E = codes "e"
+port_word W = codes "w"
+port_word N = codes "n"
+port_word S = codes "s"
+
+abbrev pub operand_words : Operands → List (List ℕ)
+operand_words Nothing = []
+operand_words (Tile t) = decimal t ∷ []
+operand_words (Channel r port slot) = decimal r ∷ port_word port ∷ decimal slot ∷ []
+operand_words (Way r port slot out) = decimal r ∷ port_word port ∷ decimal slot ∷ port_word out ∷ []
+
+-- the words of an event's line
+abbrev pub event_words : Event → List (List ℕ)
+event_words e = codes "e" ∷ (form_of e).word ∷ operand_words (form_of e).operands
+
+-- tiles and routers up to 63, slots up to 15, and a way that leaves the router
+abbrev pub AreWithin : Operands → Type 0
+AreWithin Nothing = Unit {0}
+AreWithin (Tile t) = t ≤ 63
+AreWithin (Channel r port slot) = (r ≤ 63) × (slot ≤ 15)
+AreWithin (Way r port slot out) = (r ≤ 63) × (slot ≤ 15) × (out ≢ L)
+
+-- an event within these limits, which a packed word has room for
+abbrev pub IsWithin : Event → Type 0
+IsWithin e = AreWithin (form_of e).operands

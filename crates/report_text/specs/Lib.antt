@@ -1,0 +1,10 @@
+pub mod Events
+pub mod Entry
+pub mod Lines
+pub mod Rows
+pub mod Report
+pub mod Reading
+pub mod Scanning
+pub mod Telling
+pub mod Unpacking
+pub mod WorkedRun

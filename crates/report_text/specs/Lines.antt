@@ -1,0 +1,35 @@
+-- Lines of a text. A line is the list of its bytes, without its line feed.
+use Rattle.std.specs.Prelude.{ℕ, ◌==◌, Bool, List, [], ◌∷◌, ◌++◌, length, if◌then◌else◌}
+use Rattle.std.specs.List.{flat_map, slice_split}
+
+abbrev pub is_blank : ℕ → Bool
+is_blank byte = byte == 32
+
+-- words, each behind a blank
+abbrev pub behind_blanks : List (List ℕ) → List ℕ
+behind_blanks words = flat_map (λ word. 32 ∷ word) words
+
+-- the line of these words, with a blank between each two
+abbrev pub line_of : List (List ℕ) → List ℕ
+line_of [] = []
+line_of (word ∷ words) = word ++ behind_blanks words
+
+abbrev pub ended : List ℕ → List ℕ
+ended line = line ++ 10 ∷ []
+
+-- each line with its line feed
+abbrev pub text_of : List (List ℕ) → List ℕ
+text_of lines = flat_map ended lines
+
+abbrev pub is_line_feed : ℕ → Bool
+is_line_feed byte = byte == 10
+
+-- no line stands behind the last line feed where nothing does
+abbrev pub without_empty_end : List (List ℕ) → List (List ℕ)
+without_empty_end [] = []
+without_empty_end (part ∷ []) = if length part == 0 then [] else part ∷ []
+without_empty_end (part ∷ next ∷ parts) = part ∷ without_empty_end (next ∷ parts)
+
+-- the lines of a text, whose last line feed may be missing
+abbrev pub lines_of : List ℕ → List (List ℕ)
+lines_of text = without_empty_end (slice_split is_line_feed text)

@@ -1,0 +1,105 @@
+ghost use Rattle.std.specs.Prelude.{◌≡◌, ◌≤◌, length, OnOk, OnErr};
+ghost use Rattle.outside_io.specs.Streams.{Rose, Appends, AppendsPart};
+ghost use Rattle.report_text.specs.Lines.{text_of};
+ghost use Rattle.report_text.specs.Report.{IsTabular, request_part, tile_part, access_part, memory_part, count_part, journal_part, report_text};
+
+use crate::rows::{
+    access_line, count_line, event_line, finish_line, memory_line, request_line, tile_line,
+};
+use crate::{Access, Event, Report};
+use mesh_gen::Request;
+use outside_io::{Sink, WriteFault};
+
+/// Writes the text of the report, one piece a line. It takes no memory.
+pub fn write_report<K: Sink>(report: &Report, sink: &mut K) -> Result<(), WriteFault>
+    requires { IsTabular report.now }
+    ensures ok { OnOk result (Appends (K.held sink.old) (K.held sink.new) (report_text report.now)) }
+    ensures err { OnErr result (AppendsPart (K.held sink.old) (K.held sink.new) (report_text report.now)) }
+    ensures fault { OnErr result (Rose (K.faults sink.old) (K.faults sink.new)) }
+    ensures count { K.faults sink.old ≤ K.faults sink.new }
+{
+    write_requests(report.requests.as_slice(), sink)?;
+    write_tiles(report.seen.as_slice(), report.steps.as_slice(), sink)?;
+    write_accesses(report.accesses.as_slice(), sink)?;
+    write_memory(report.memory.as_slice(), sink)?;
+    write_counts(report.windows, report.hops, sink)?;
+    write_journal(report.journal.as_slice(), sink)?;
+    finish_line(report.ended).write(sink)
+}
+
+fn write_requests<K: Sink>(requests: &[Request], sink: &mut K) -> Result<(), WriteFault>
+    ensures ok { OnOk result (Appends (K.held sink.old) (K.held sink.new) (text_of (request_part requests.now))) }
+    ensures err { OnErr result (AppendsPart (K.held sink.old) (K.held sink.new) (text_of (request_part requests.now))) }
+    ensures fault { OnErr result (Rose (K.faults sink.old) (K.faults sink.new)) }
+    ensures count { K.faults sink.old ≤ K.faults sink.new }
+{
+    count_line("requests", requests.len() as u64).write(sink)?;
+    for (place, request) in requests.iter().enumerate() {
+        request_line(place as u64, request).write(sink)?;
+    }
+    Ok(())
+}
+
+fn write_tiles<K: Sink>(seen: &[u64], steps: &[u64], sink: &mut K) -> Result<(), WriteFault>
+    requires { length seen.now ≡ length steps.now }
+    ensures ok { OnOk result (Appends (K.held sink.old) (K.held sink.new) (text_of (tile_part seen.now steps.now))) }
+    ensures err { OnErr result (AppendsPart (K.held sink.old) (K.held sink.new) (text_of (tile_part seen.now steps.now))) }
+    ensures fault { OnErr result (Rose (K.faults sink.old) (K.faults sink.new)) }
+    ensures count { K.faults sink.old ≤ K.faults sink.new }
+{
+    count_line("seen", seen.len() as u64).write(sink)?;
+    for (tile, requests) in seen.iter().enumerate() {
+        tile_line(tile as u64, *requests, steps[tile]).write(sink)?;
+    }
+    Ok(())
+}
+
+fn write_accesses<K: Sink>(accesses: &[Access], sink: &mut K) -> Result<(), WriteFault>
+    ensures ok { OnOk result (Appends (K.held sink.old) (K.held sink.new) (text_of (access_part accesses.now))) }
+    ensures err { OnErr result (AppendsPart (K.held sink.old) (K.held sink.new) (text_of (access_part accesses.now))) }
+    ensures fault { OnErr result (Rose (K.faults sink.old) (K.faults sink.new)) }
+    ensures count { K.faults sink.old ≤ K.faults sink.new }
+{
+    count_line("accesses", accesses.len() as u64).write(sink)?;
+    for access in accesses {
+        access_line(access).write(sink)?;
+    }
+    Ok(())
+}
+
+fn write_memory<K: Sink>(memory: &[u32], sink: &mut K) -> Result<(), WriteFault>
+    ensures ok { OnOk result (Appends (K.held sink.old) (K.held sink.new) (text_of (memory_part memory.now))) }
+    ensures err { OnErr result (AppendsPart (K.held sink.old) (K.held sink.new) (text_of (memory_part memory.now))) }
+    ensures fault { OnErr result (Rose (K.faults sink.old) (K.faults sink.new)) }
+    ensures count { K.faults sink.old ≤ K.faults sink.new }
+{
+    let (lines, _) = memory.as_chunks::<4>();
+    count_line("memory", lines.len() as u64).write(sink)?;
+    for (line, words) in lines.iter().enumerate() {
+        memory_line(line as u64, *words).write(sink)?;
+    }
+    Ok(())
+}
+
+fn write_counts<K: Sink>(windows: u64, hops: u64, sink: &mut K) -> Result<(), WriteFault>
+    ensures ok { OnOk result (Appends (K.held sink.old) (K.held sink.new) (text_of (count_part windows hops))) }
+    ensures err { OnErr result (AppendsPart (K.held sink.old) (K.held sink.new) (text_of (count_part windows hops))) }
+    ensures fault { OnErr result (Rose (K.faults sink.old) (K.faults sink.new)) }
+    ensures count { K.faults sink.old ≤ K.faults sink.new }
+{
+    count_line("windows", windows).write(sink)?;
+    count_line("hops", hops).write(sink)
+}
+
+fn write_journal<K: Sink>(events: &[Event], sink: &mut K) -> Result<(), WriteFault>
+    ensures ok { OnOk result (Appends (K.held sink.old) (K.held sink.new) (text_of (journal_part events.now))) }
+    ensures err { OnErr result (AppendsPart (K.held sink.old) (K.held sink.new) (text_of (journal_part events.now))) }
+    ensures fault { OnErr result (Rose (K.faults sink.old) (K.faults sink.new)) }
+    ensures count { K.faults sink.old ≤ K.faults sink.new }
+{
+    count_line("journal", events.len() as u64).write(sink)?;
+    for event in events {
+        event_line(event).write(sink)?;
+    }
+    Ok(())
+}
