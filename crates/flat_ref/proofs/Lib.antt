@@ -1,0 +1,10 @@
+pub mod Runs
+pub mod Reached
+pub mod Ends
+pub mod Takings
+pub mod Values
+pub mod ProgramOrder
+pub mod Finished
+pub mod Parts
+pub mod Together
+pub mod Consistent
