@@ -1,0 +1,47 @@
+-- The shape of the networks: their channels, windows and messages, whatever the order of requests is.
+use Rattle.std.specs.Prelude.{◌≡◌, ◌⊎◌, ℕ, ◌^◌, ◌<◌, ◌≤◌, Bool, true, false, List, length, Some, slice_get}
+use Rattle.mesh_gen.specs.declared.msg.Msg.{Msg}
+use Rattle.mesh_gen.specs.declared.port.Port.{Port}
+use Rattle.mesh_gen.specs.Grid.{Grid, tiles}
+use Rattle.mesh_gen.specs.Ports.{port_number}
+use Rattle.mesh_gen.specs.PortSets.{bits_of}
+use Rattle.mesh_gen.specs.Routes.{MayStand}
+use Rattle.vc_bank.specs.Channels.{Channels, empty_channels, slots_at}
+use Rattle.vc_bank.specs.Places.{Network, at}
+use Rattle.order_tracker.specs.Tracker.{IsWindow}
+use Rattle.chip_model.specs.declared.net_copy.NetCopy.{NetCopy}
+use Rattle.chip_model.specs.Chip.{Chip, tile_count}
+use Rattle.chip_model.specs.Windows.{Windows}
+use Rattle.chip_model.specs.Copies.{channels_of}
+use Rattle.chip_model.specs.OrderedNetwork.{OrderedNetwork, Interface}
+
+-- each router has the channels of an empty one
+pub record HasChannels {P : Type 0} (g : Grid) (normal : ℕ) (reserved : Bool) (net : Network P) : Type 0 where
+  pub routers : length net ≡ tiles g
+  pub ports : (router : ℕ) (channels : Channels P) → slice_get net router ≡ Some channels → length channels ≡ 5
+  pub slots : (router port : ℕ) (channels : Channels P) → slice_get net router ≡ Some channels →
+      length (slots_at channels port) ≡ length (slots_at (empty_channels {P = P} normal reserved) port)
+
+-- a window ticks only where a tile posted, each closed vector is a set of some tiles, and no tile has taken more than there
+-- are
+pub record WindowsFit (chip : Chip) (w : Windows) : Type 0 where
+  pub phase : w.phase < chip.window
+  pub begun : (w.phase ≡ 0) ⊎ (0 < w.posts)
+  pub posts : w.posts < 2 ^ tile_count chip
+  pub closed : (k vector : ℕ) → slice_get w.closed k ≡ Some vector → IsWindow (tile_count chip) vector
+  pub tiles : length w.taken ≡ tile_count chip
+  pub taken : (t count : ℕ) → slice_get w.taken t ≡ Some count → count ≤ length w.closed
+
+-- a copy is of a request that its source made, and owes ports alone
+pub record IsCopyOfMade (net : OrderedNetwork) (copy : NetCopy) : Type 0 where
+  pub interface : Interface
+  pub source : slice_get net.interfaces copy.request.source ≡ Some interface
+  pub made : slice_get interface.made copy.request.number ≡ Some copy.request
+  pub ports : bits_of copy.owed < 32
+
+abbrev pub CopiesAreMade : OrderedNetwork → Type 0
+CopiesAreMade net = (router port slot : ℕ) (copy : NetCopy) → at net.copies router port slot ≡ Some copy → IsCopyOfMade net copy
+
+-- a message stands at a port that it comes to on its route
+abbrev pub StandsOnRoute : Grid → Network Msg → Type 0
+StandsOnRoute g net = (router slot : ℕ) (port : Port) (msg : Msg) → at net router (port_number port) slot ≡ Some msg → MayStand g msg.to router port

@@ -1,0 +1,152 @@
+-- A node: the cache side of a tile, its memory controller, and the queue of messages that it sends.
+use Rattle.std.specs.Prelude.{ℕ, ◌+◌, ◌*◌, ◌==◌, Bool, true, false, not, ◌||◌, List, [], ◌++◌, map, take, drop, Option, Some, None, is_some, slice_index, set, if◌then◌else◌}
+use Rattle.std.specs.List.{list_any}
+use Rattle.mesh_gen.specs.declared.request.Request.{Request}
+use Rattle.mesh_gen.specs.declared.msg.Msg.{Msg}
+use Rattle.mesh_gen.specs.declared.msg_kind.MsgKind.{MsgKind}
+use Rattle.mesh_gen.specs.declared.msg_kind.MsgKind.TheVariants.{Data, Back}
+use Rattle.order_tracker.specs.Order.{upwards}
+use Rattle.report_text.specs.declared.access.AccessKind.{AccessKind}
+use Rattle.report_text.specs.declared.access.AccessKind.TheVariants.{Load, Store}
+use Rattle.chip_model.specs.declared.done.Done.{Done}
+use Rattle.chip_model.specs.declared.line_state.State.{State}
+use Rattle.chip_model.specs.declared.line_state.State.TheVariants.{M, O, S}
+use Rattle.chip_model.specs.Chip.{Chip, home, line_of, word_of}
+use Rattle.chip_model.specs.Cache.{Cache, Held, empty_cache, lookup, has_room, installed, without_line, without_shared, lowest_for}
+use Rattle.chip_model.specs.Misses.{no_misses, request_for, new_demand, new_back, marked_sent}
+use Rattle.chip_model.specs.Snoop.{CacheSide, with_cache, with_demand, with_back, snooped, data_arrived}
+use Rattle.chip_model.specs.Records.{LineRecord, Records, opening_record, answered, back_arrived}
+use Rattle.chip_model.specs.Partial.{when}
+
+-- the chip and the tile; the cache with its misses; the controller's records; the messages to send, the next one first;
+-- and how many requests were delivered to it
+pub record Node : Type 0 where
+  pub chip : Chip
+  pub tile : ℕ
+  pub side : CacheSide
+  pub records : Records
+  pub out : List Msg
+  pub delivered : ℕ
+
+-- the words of a line in a memory
+abbrev pub words_at : List ℕ → ℕ → List ℕ
+words_at memory line = take 4 (drop (4 * line) memory)
+
+abbrev pub record_at : Chip → ℕ → List ℕ → ℕ → Option LineRecord
+record_at chip tile memory line = if home chip line == tile then Some (opening_record (words_at memory line)) else None
+
+abbrev pub opening_node : Chip → ℕ → List ℕ → Node
+opening_node chip tile memory = record {
+  chip = chip;
+  tile = tile;
+  side = record { cache = empty_cache chip; misses = no_misses };
+  records = map (record_at chip tile memory) (upwards 0 chip.lines);
+  out = [];
+  delivered = 0;
+}
+
+-- what a node becomes, and the access that it performs
+abbrev pub Performed : Type 0
+Performed = Node × Option Done
+
+-- a request is delivered: first the cache acts, then the controller
+unfoldable pub request_delivered : Request → Node → Performed
+request_delivered q node =
+    let outcome = snooped node.chip node.tile node.side node.delivered q in
+    let answers = answered q node.records in
+    (record node { side = outcome.side; records = answers.records; out = node.out ++ outcome.sends ++ answers.sends; delivered = node.delivered + 1 }, outcome.done)
+
+abbrev pub words_arrived : Node → List ℕ → Performed
+words_arrived node words =
+    let outcome = data_arrived node.chip node.side words in
+    (record node { side = outcome.side; out = node.out ++ outcome.sends }, outcome.done)
+
+abbrev pub back_came : Node → ℕ → List ℕ → Node
+back_came node line words =
+    let answers = back_arrived line words node.records in
+    record node { records = answers.records; out = node.out ++ answers.sends }
+
+abbrev pub arrived_as : Msg → Node → MsgKind → Performed
+arrived_as msg node Data = words_arrived node msg.words
+arrived_as msg node Back = (back_came node msg.line msg.words, None)
+
+-- a message comes: data for the demand, or words that come back to the controller
+unfoldable pub message_arrived : Msg → Node → Performed
+message_arrived msg node = arrived_as msg node msg.kind
+
+-- the node's request is sent; its next message is
+unfoldable pub request_sent : Node → Node
+request_sent node = record node { side = record node.side { misses = marked_sent node.side.misses } }
+
+unfoldable pub message_sent : Node → Node
+message_sent node = record node { out = drop 1 node.out }
+
+-- The core's accesses.
+
+-- whether the node waits for something
+abbrev pub has_entry : Node → Bool
+has_entry node = is_some node.side.misses.demand || is_some node.side.misses.back
+
+abbrev pub is_back : MsgKind → Bool
+is_back Back = true
+is_back Data = false
+
+-- whether words to give back to memory stand in the queue
+abbrev pub holds_back : List Msg → Bool
+holds_back out = list_any (λ (msg : Msg). is_back msg.kind) out
+
+abbrev pub with_side : CacheSide → Node → Node
+with_side side node = record node { side = side }
+
+-- a load of a copy, and a store to the only copy, are performed at once, at the time of the delivered count
+abbrev pub load_hit : ℕ → Held → Node → Performed
+load_hit address held node =
+    (node, Some (record { kind = Load; address = address; value = slice_index held.words (word_of address); time = node.delivered }))
+
+abbrev pub store_hit : ℕ → ℕ → Held → Node → Performed
+store_hit address value held node =
+    let new : Held = record held { words = set held.words (word_of address) value } in (
+      with_side (with_cache (installed node.chip new node.side.cache) node.side) node,
+      Some (record { kind = Store; address = address; value = value; time = node.delivered }),
+    )
+
+-- a miss starts a demand
+abbrev pub demand_started : AccessKind → ℕ → ℕ → CacheSide → Node → Performed
+demand_started kind address value side node =
+    let demand = new_demand (request_for kind) (line_of address) (record { kind = kind; address = address; value = value }) in
+    (with_side (with_demand (Some demand) side) node, None)
+
+-- a line that the cache owns leaves it to be written back; the access is tried again later. It waits while other words
+-- to give back are still to be sent
+abbrev pub back_started : Node → Option Held → Option Performed
+back_started node None = None
+back_started node (Some held) = when (not (holds_back node.out)) (Some (
+  with_side (with_back (Some (new_back held.line held.words)) (with_cache (without_line node.chip held.line node.side.cache) node.side)) node,
+  None,
+))
+
+-- a miss of a line whose set is full: a shared line is dropped silently, and where there is none one is written back
+abbrev pub room_made : AccessKind → ℕ → ℕ → Node → Option Cache → Option Performed
+room_made kind address value node (Some cache) = Some (demand_started kind address value (with_cache cache node.side) node)
+room_made kind address value node None = back_started node (lowest_for node.chip (line_of address) node.side.cache)
+
+-- a miss of a line that is not in the cache
+abbrev pub missed : AccessKind → ℕ → ℕ → Node → Option Performed
+missed kind address value node =
+    if has_room node.chip node.side.cache (line_of address) then Some (demand_started kind address value node.side node)
+    else room_made kind address value node (without_shared node.chip (line_of address) node.side.cache)
+
+abbrev pub store_to : ℕ → ℕ → Held → Node → State → Performed
+store_to address value held node M = store_hit address value held node
+store_to address value held node O = demand_started Store address value node.side node
+store_to address value held node S = demand_started Store address value node.side node
+
+abbrev pub accessed_with : AccessKind → ℕ → ℕ → Node → Option Held → Option Performed
+accessed_with kind address value node None = missed kind address value node
+accessed_with Load address value node (Some held) = Some (load_hit address held node)
+accessed_with Store address value node (Some held) = Some (store_to address value held node held.state)
+
+-- an access of the core: none where the node waits, or a write-back would have to wait
+unfoldable pub accessed : AccessKind → ℕ → ℕ → Node → Option Performed
+accessed kind address value node =
+    when (not (has_entry node)) (accessed_with kind address value node (lookup node.chip node.side.cache (line_of address)))

@@ -1,0 +1,41 @@
+-- The messages in the routers' reply channels. Each goes to one tile, along its row first and then along its column.
+use Rattle.std.specs.Prelude.{ℕ, ◌==◌, Bool, false, Option, Some, None, is_none, replicate}
+use Rattle.std.specs.List.{list_all}
+use Rattle.mesh_gen.specs.declared.msg.Msg.{Msg}
+use Rattle.mesh_gen.specs.declared.port.Port.{Port}
+use Rattle.mesh_gen.specs.declared.port.Port.TheVariants.{L}
+use Rattle.mesh_gen.specs.Grid.{Grid, tiles, neighbour}
+use Rattle.mesh_gen.specs.Ports.{port_number, opposite}
+use Rattle.mesh_gen.specs.Routes.{route}
+use Rattle.vc_bank.specs.Channels.{empty_channels, lowest_free}
+use Rattle.vc_bank.specs.Places.{Network, at, put}
+use Rattle.chip_model.specs.Copies.{channels_of}
+use Rattle.chip_model.specs.Partial.{when, ◌>>=◌}
+
+-- no message in any router; each port has so many channels
+abbrev pub no_replies : Grid → ℕ → Network Msg
+no_replies g data_vcs = replicate (tiles g) (empty_channels data_vcs false)
+
+-- a message enters the lowest free channel of a router's local port
+unfoldable pub sent : Network Msg → ℕ → Msg → Option (Network Msg)
+sent net r msg =
+    lowest_free (channels_of net r) (port_number L) >>= (λ slot.
+    Some (put net r (port_number L) slot (Some msg)))
+
+-- a message goes on to the next router of its route, into the lowest free channel there; none is next at its own tile
+unfoldable pub forwarded : Grid → Network Msg → ℕ → Port → ℕ → Option (Network Msg)
+forwarded g net r port slot =
+    at net r (port_number port) slot >>= (λ msg. let out = route g r msg.to in
+    neighbour g r out >>= (λ to.
+    lowest_free (channels_of net to) (port_number (opposite out)) >>= (λ entry.
+    Some (put (put net r (port_number port) slot None) to (port_number (opposite out)) entry (Some msg)))))
+
+-- the message that leaves a channel at its own tile, and the messages then
+unfoldable pub received : Network Msg → ℕ → Port → ℕ → Option (Msg × Network Msg)
+received net r port slot =
+    at net r (port_number port) slot >>= (λ msg. when (msg.to == r)
+    (Some (msg, put net r (port_number port) slot None)))
+
+-- no message stands in any channel
+abbrev pub is_empty : Network Msg → Bool
+is_empty net = list_all (list_all (list_all is_none)) net

@@ -1,0 +1,190 @@
+-- Who supplies the words of each get: each get that is ordered and not complete is answered from exactly one place, and
+-- the words of each write-back come home once.
+use Rattle.std.specs.Prelude.{◌≡◌, ℕ, ◌+◌, ◌<◌, ◌≤◌, ◌==◌, Bool, true, false, not, ◌&&◌, ◌||◌, List, [], ◌∷◌, length, take, drop, filter, sum_by, count_by, Option, Some, None, is_some, slice_get, slice_index_or, nat_le, if◌then◌else◌, position, option_map}
+use Rattle.std.specs.Option.{option_or}
+use Rattle.mesh_gen.specs.declared.request.Request.{Request}
+use Rattle.mesh_gen.specs.declared.msg.Msg.{Msg}
+use Rattle.mesh_gen.specs.Ports.{count_if}
+use Rattle.order_tracker.specs.Order.{upwards}
+use Rattle.vc_bank.specs.Places.{weigh}
+use Rattle.chip_model.specs.declared.owner.Owner.{Owner}
+use Rattle.chip_model.specs.declared.owner.Owner.TheVariants.{Memory, Tile}
+use Rattle.chip_model.specs.declared.waiting.Waiting.{Waiting}
+use Rattle.chip_model.specs.Chip.{Chip, home}
+use Rattle.chip_model.specs.Misses.{Demand}
+use Rattle.chip_model.specs.Records.{LineRecord}
+use Rattle.chip_model.specs.Node.{Node, is_back}
+use Rattle.chip_model.specs.Units.{UnitState}
+use Rattle.chip_model.specs.ChipState.{ChipState}
+use Rattle.chip_model.specs.Ownership.{owner, is_tile, delivered_to}
+use Rattle.chip_model.specs.Bookkeeping.{is_get, is_get_of, up_to_getm, waiting_for, between}
+
+abbrev pub count_of : Option UnitState → ℕ
+count_of None = 0
+count_of (Some unit) = unit.node.delivered
+
+-- how many requests were delivered to a tile
+abbrev pub delivered_at : ChipState → ℕ → ℕ
+delivered_at s t = count_of (slice_get s.units t)
+
+-- who supplies a get for a line: the owner of the line, and else the memory at the line's home
+abbrev pub supplier : Chip → ℕ → Owner → ℕ
+supplier chip line Memory = home chip line
+supplier chip line (Tile owner) = owner
+
+abbrev pub is_to_come_at : Chip → ChipState → ℕ → ℕ → Option Request → Bool
+is_to_come_at chip s t place None = false
+is_to_come_at chip s t place (Some q) =
+    is_get_of t q && nat_le (delivered_at s (supplier chip q.line (owner q.line (take place s.network.ordered)))) place
+
+-- the get of a tile at a place is still to come to its supplier
+abbrev pub is_to_come : Chip → ChipState → ℕ → ℕ → Bool
+is_to_come chip s t place = is_to_come_at chip s t place (slice_get s.network.ordered place)
+
+-- words on their way to a tile: in queues and in channels
+abbrev pub is_data_for : ℕ → Msg → Bool
+is_data_for t msg = not (is_back msg.kind) && (msg.to == t)
+
+abbrev pub data_in_channels : ChipState → ℕ → ℕ
+data_in_channels s t = weigh (λ router port slot msg. count_if (is_data_for t msg)) s.replies
+
+-- places of a tile in lists of tiles that wait
+abbrev pub places_in : ℕ → List Waiting → ℕ
+places_in t list = count_by (λ (waiting : Waiting). waiting.tile == t) list
+
+abbrev pub places_behind : ℕ → Option Demand → ℕ
+places_behind t None = 0
+places_behind t (Some demand) = places_in t demand.list
+
+abbrev pub places_at : ℕ → Option LineRecord → ℕ
+places_at t None = 0
+places_at t (Some r) = places_in t r.waiters
+
+-- what a node has promised a tile
+abbrev pub promised_by : ℕ → UnitState → ℕ
+promised_by t unit =
+    count_by (is_data_for t) unit.node.out + places_behind t unit.node.side.misses.demand + sum_by (places_at t) unit.node.records
+
+-- everything from which a tile's gets are still to be answered
+abbrev pub answers_to_come : Chip → ChipState → ℕ → ℕ
+answers_to_come chip s t =
+    sum_by (promised_by t) s.units + data_in_channels s t + count_by (is_to_come chip s t) (upwards 0 (length s.network.ordered))
+
+abbrev pub has_early : Option Demand → Bool
+has_early None = false
+has_early (Some demand) = is_some demand.early
+
+abbrev pub is_ordered : Option Demand → Bool
+is_ordered None = false
+is_ordered (Some demand) = is_some demand.ordered
+
+-- a tile's gets that it has not delivered, and its ordered demand, are each answered once
+abbrev pub IsSupplied : Chip → ChipState → ℕ → Node → Type 0
+IsSupplied chip s t node =
+    count_if (has_early node.side.misses.demand) + answers_to_come chip s t
+    ≡ count_by (is_get_of t) (drop node.delivered s.network.ordered) + count_if (is_ordered node.side.misses.demand)
+
+-- the place of the one get of a tile that is ordered and not complete: its ordered demand's, and else the first that the
+-- tile has not delivered
+abbrev pub place_to_come : ChipState → Node → Option ℕ
+place_to_come s node = option_map (λ place. node.delivered + place) (position (is_get_of node.tile) (drop node.delivered s.network.ordered))
+
+abbrev pub place_of_ordered : Option Demand → Option ℕ
+place_of_ordered None = None
+place_of_ordered (Some demand) = demand.ordered
+
+abbrev pub place_of_get : ChipState → Node → Option ℕ
+place_of_get s node = option_or (place_of_ordered node.side.misses.demand) (place_to_come s node)
+
+-- no other get of the tile is still to come to its supplier
+abbrev pub OneToCome : Chip → ChipState → ℕ → Node → Type 0
+OneToCome chip s t node = (place : ℕ) → is_to_come chip s t place ≡ true → place_of_get s node ≡ Some place
+
+-- Write-backs.
+
+abbrev pub gives_back_as : ℕ → Owner → Option Request → Bool
+gives_back_as line owner None = false
+gives_back_as line owner (Some q) = not (is_get q.kind) && (q.line == line) && is_tile q.source owner
+
+-- the request at a place gives a line back to the memory, from its owner
+abbrev pub gives_back : ℕ → List Request → ℕ → Bool
+gives_back line ordered place = gives_back_as line (owner line (take place ordered)) (slice_get ordered place)
+
+-- the places of these requests, and the last of them
+abbrev pub places_given_back : ℕ → List Request → List ℕ
+places_given_back line ordered = filter (gives_back line ordered) (upwards 0 (length ordered))
+
+abbrev pub last : List ℕ → Option ℕ
+last [] = None
+last (place ∷ []) = Some place
+last (first ∷ next ∷ rest) = last (next ∷ rest)
+
+abbrev pub last_given_back : ℕ → List Request → Option ℕ
+last_given_back line ordered = last (places_given_back line ordered)
+
+-- the words of a line that are on their way home, in queues and in channels
+abbrev pub is_back_for : ℕ → Msg → Bool
+is_back_for line msg = is_back msg.kind && (msg.line == line)
+
+abbrev pub backs_under_way : ChipState → ℕ → ℕ
+backs_under_way s line =
+    sum_by (λ (unit : UnitState). count_by (is_back_for line) unit.node.out) s.units
+    + weigh (λ router port slot msg. count_if (is_back_for line msg)) s.replies
+
+abbrev pub is_undelivered_at : ChipState → ℕ → Option Request → Bool
+is_undelivered_at s place None = false
+is_undelivered_at s place (Some q) = nat_le (delivered_at s q.source) place
+
+-- the tile of the request at a place has not delivered it
+abbrev pub is_undelivered : ChipState → ℕ → Bool
+is_undelivered s place = is_undelivered_at s place (slice_get s.network.ordered place)
+
+abbrev pub backs_to_come : ChipState → ℕ → ℕ
+backs_to_come s line = count_by (is_undelivered s) (places_given_back line s.network.ordered)
+
+-- the words of all but the last request that gave a line back have come home: each by one message
+pub record ComesHome (s : ChipState) (line : ℕ) : Type 0 where
+  pub once : backs_under_way s line + backs_to_come s line ≤ 1
+  pub last : 0 < backs_under_way s line + backs_to_come s line → is_some (last_given_back line s.network.ordered) ≡ true
+  pub undelivered : (place : ℕ) → gives_back line s.network.ordered place ≡ true → is_undelivered s place ≡ true → last_given_back line s.network.ordered ≡ Some place
+
+abbrev pub is_last : Option ℕ → ℕ → Bool
+is_last None place = false
+is_last (Some last) place = last == place
+
+-- whether the words of the request at a place, which gave the line back, have come home
+abbrev pub has_come_home : ChipState → ℕ → ℕ → Bool
+has_come_home s line place =
+    not (is_last (last_given_back line s.network.ordered) place) || (backs_under_way s line + backs_to_come s line == 0)
+
+-- the place of the next request that gives a line back, from a place on
+abbrev pub next_from : ℕ → List ℕ → Option ℕ
+next_from place [] = None
+next_from place (first ∷ rest) = if nat_le place first then Some first else next_from place rest
+
+abbrev pub next_given_back : ChipState → ℕ → ℕ → Option ℕ
+next_given_back s line place = next_from place (places_given_back line s.network.ordered)
+
+-- a record is fresh where the memory owns the line and the words of the last request that gave it back, if there is one,
+-- have come; where a tile owns it, where the words of the next one have come before it
+abbrev pub has_come : ChipState → ℕ → Bool → Option ℕ → Bool
+has_come s line none None = none
+has_come s line none (Some place) = has_come_home s line place
+
+abbrev pub is_fresh_by : ChipState → Node → ℕ → Owner → Bool
+is_fresh_by s node line Memory = has_come s line true (last_given_back line (delivered_to s.network.ordered node))
+is_fresh_by s node line (Tile t) = has_come s line false (next_given_back s line node.delivered)
+
+abbrev pub RecordsAreFresh : ChipState → Node → Type 0
+RecordsAreFresh s node = (line : ℕ) (r : LineRecord) → slice_index_or node.records line None ≡ Some r → r.fresh ≡ is_fresh_by s node line r.owner
+
+-- the gets that wait at a home: those behind the last request that gave the line back, as long as its words have not come
+abbrev pub waiters_behind : ChipState → Node → ℕ → Option ℕ → List Waiting
+waiters_behind s node line None = []
+waiters_behind s node line (Some place) =
+    if has_come_home s line place then []
+    else waiting_for (up_to_getm (filter (λ (q : Request). is_get q.kind && (q.line == line)) (between place node.delivered s.network.ordered)))
+
+abbrev pub WaitersAreGets : ChipState → Node → Type 0
+WaitersAreGets s node = (line : ℕ) (r : LineRecord) → slice_index_or node.records line None ≡ Some r →
+    r.waiters ≡ (if r.fresh then [] else waiters_behind s node line (last_given_back line (delivered_to s.network.ordered node)))

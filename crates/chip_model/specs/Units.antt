@@ -1,0 +1,94 @@
+-- A unit: a core over a node. How it steps, and what it makes of deliveries and data, is its behaviour; that of in-order
+-- cores stands here.
+use Rattle.std.specs.Prelude.{ℕ, Bool, true, false, not, ◌||◌, List, [], Option, Some, None, is_some, option_map, unwrap_or}
+use Rattle.mesh_gen.specs.declared.request.Request.{Request}
+use Rattle.mesh_gen.specs.declared.msg.Msg.{Msg}
+use Rattle.core_isa.specs.declared.instr.Instr.{Instr}
+use Rattle.core_isa.specs.Core.{CoreState, new_core, Effect, Becomes, Loads, Stores, Halts, effect_of, instr_at, loaded, stored}
+use Rattle.report_text.specs.declared.access.Access.{Access}
+use Rattle.report_text.specs.declared.access.AccessKind.{AccessKind}
+use Rattle.report_text.specs.declared.access.AccessKind.TheVariants.{Load, Store}
+use Rattle.chip_model.specs.declared.done.Done.{Done}
+use Rattle.chip_model.specs.Chip.{Chip, address_in}
+use Rattle.chip_model.specs.Node.{Node, Performed, opening_node, has_entry, accessed, request_delivered, message_arrived}
+use Rattle.chip_model.specs.Partial.{when}
+
+-- a store that was done and is not performed yet: how many instructions its core had done before, address and value
+pub record BufferedStore : Type 0 where
+  pub number : ℕ
+  pub address : ℕ
+  pub value : ℕ
+
+-- a node, a program and its core, whether a core event has halted the core, and its buffered stores, the oldest first
+pub record UnitState : Type 0 where
+  pub node : Node
+  pub program : List Instr
+  pub core : CoreState
+  pub halted : Bool
+  pub buffered : List BufferedStore
+
+abbrev pub opening_unit : Chip → ℕ → List Instr → List ℕ → UnitState
+opening_unit chip tile program memory = record {
+  node = opening_node chip tile memory;
+  program = program;
+  core = new_core tile;
+  halted = false;
+  buffered = [];
+}
+
+-- what a unit becomes, and the access that it performs
+abbrev pub Acted : Type 0
+Acted = UnitState × Option Access
+
+-- whether a core event is possible, and what it does; what the delivery of a request and the arrival of a message do
+pub record Behaviour : Type 0 where
+  pub ready : UnitState → Bool
+  pub stepped : UnitState → Acted
+  pub delivered : Request → UnitState → Acted
+  pub received : Msg → UnitState → Acted
+
+-- In-order cores.
+
+-- the core after the access for which it waited
+abbrev pub core_after : List Instr → AccessKind → ℕ → CoreState → CoreState
+core_after program Load value core = loaded program value core
+core_after program Store value core = stored core
+
+-- the access of a unit's core that its node performed
+abbrev pub access_of : UnitState → Done → Access
+access_of unit done = record {
+  tile = unit.node.tile;
+  number = unit.core.steps;
+  kind = done.kind;
+  address = done.address;
+  value = done.value;
+  time = done.time;
+}
+
+-- the unit with what its node became, and where an access was performed with the core after it
+abbrev pub performed : UnitState → Performed → Acted
+performed unit (node, None) = (record unit { node = node }, None)
+performed unit (node, Some done) =
+    (record unit { node = node; core = core_after unit.program done.kind done.value unit.core }, Some (access_of unit done))
+
+abbrev pub access_tried : UnitState → AccessKind → ℕ → ℕ → Option Acted
+access_tried unit kind sum value = option_map (performed unit) (accessed kind (address_in unit.node.chip sum) value unit.node)
+
+abbrev pub executed : UnitState → Effect → Option Acted
+executed unit (Becomes core) = Some (record unit { core = core }, None)
+executed unit (Loads register sum) = access_tried unit Load sum 0
+executed unit (Stores sum value) = access_tried unit Store sum value
+executed unit Halts = Some (record unit { halted = true }, None)
+
+-- a core event: none where the core has halted or waits, or a write-back would have to wait
+unfoldable pub core_event : UnitState → Option Acted
+core_event unit =
+    when (not (unit.halted || has_entry unit.node)) (executed unit (effect_of (instr_at unit.program unit.core.place) unit.core))
+
+unfoldable pub in_order : Behaviour
+in_order = record {
+  ready = λ unit. is_some (core_event unit);
+  stepped = λ unit. unwrap_or (core_event unit) (unit, None);
+  delivered = λ q unit. performed unit (request_delivered q unit.node);
+  received = λ msg unit. performed unit (message_arrived msg unit.node);
+}
