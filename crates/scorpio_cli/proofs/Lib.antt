@@ -1,10 +1,6 @@
 pub mod Digits
 pub mod Following
-pub mod Items
+pub mod Forms
 pub mod Lines
-pub mod Numbers
-pub mod OneWord
 pub mod Outcomes
-pub mod Posted
-pub mod Tables
 pub mod Windows

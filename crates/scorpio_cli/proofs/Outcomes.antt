@@ -1,15 +1,16 @@
 -- What a command did, from what its parts did.
-use Rattle.std.proofs.Common.{◌≡◌, ℕ, ◌<◌, ◌≤◌, List, [], ◌∷◌, ◌++◌, length, Option, None, Some, option_map, Result, Ok, Err, refl, sym, ◌∙◌, ap, subst, arith}
+use Rattle.std.proofs.Common.{◌≡◌, ℕ, ◌≤◌, List, [], ◌++◌, length, Option, None, Some, option_map, Result, Ok, Err, refl, sym, ◌∙◌, ap, subst, arith}
 use Rattle.std.specs.Prelude.{IfSome}
 use Rattle.std.proofs.lemmas.List.{append-nil}
 use Rattle.outside_io.specs.Streams.{Appends, AppendsPart}
 use Rattle.scorpio_cli.specs.declared.ended.Stop.{Stop}
 use Rattle.scorpio_cli.specs.declared.ended.Stop.TheVariants.{Usage, Document, ReadFault, WriteFault, NoMemory, TooLong}
-use Rattle.scorpio_cli.specs.Document.{Plan}
+use Rattle.doc_text.specs.Doc.{Doc}
+use Rattle.mesh_doc.specs.Reading.{reading}
 use Rattle.scorpio_cli.specs.Ended.{ended_of}
-use Rattle.scorpio_cli.specs.Line.{order_text}
+use Rattle.scorpio_cli.specs.declared.command.Command.{Command}
+use Rattle.scorpio_cli.specs.Commands.{text_of}
 use Rattle.scorpio_cli.specs.Outcome.{Stream, Wrote, Ran}
-use Rattle.scorpio_cli.specs.Reading.{reading}
 use Rattle.scorpio_cli.specs.Top.{HasText, IsStatus, input_limit}
 
 -- what holds of the bytes that were read holds of the input, where it is told
@@ -17,21 +18,21 @@ told : (old new : Option (List ℕ)) (bytes : List ℕ) (P : List ℕ → Type 0
 told old None bytes P whole end p = subst (λ o. IfSome o P) (sym whole) tt
 told old (Some rest) bytes P whole end p = subst (λ o. IfSome o P) (sym (whole ∙ ap (λ (r : List ℕ). Some (bytes ++ r)) end ∙ ap (λ (b : List ℕ). Some b) (append-nil bytes))) p
 
-pub Ran-wrote : (source sink : Stream) (bytes : List ℕ) (plan : Plan) (result : Result Unit Stop) → source.old ≡ option_map (λ rest. bytes ++ rest) source.new → IfSome source.new (λ rest. rest ≡ [])
-    → length bytes ≤ input_limit → reading bytes ≡ Ok plan → Wrote sink (order_text plan) result → Ran source sink result
-Ran-wrote source sink bytes plan (Ok done) whole end limited accepted wrote =
-    told source.old source.new bytes (λ b. (text : List ℕ) × HasText b text × Appends sink.old sink.new text) whole end
-    (order_text plan, record { limited = limited; plan = plan; accepted = accepted; text_is = refl }, wrote)
-Ran-wrote source sink bytes plan (Err WriteFault) whole end limited accepted wrote = (
-  told source.old source.new bytes (λ b. (text : List ℕ) × HasText b text × AppendsPart sink.old sink.new text) whole end
-      (order_text plan, record { limited = limited; plan = plan; accepted = accepted; text_is = refl }, wrote.0),
+pub Ran-wrote : (command : Command) (source sink : Stream) (bytes : List ℕ) (doc : Doc) (result : Result Unit Stop) → source.old ≡ option_map (λ rest. bytes ++ rest) source.new → IfSome source.new (λ rest. rest ≡ [])
+    → length bytes ≤ input_limit → reading bytes ≡ Ok doc → Wrote sink (text_of command doc) result → Ran command source sink result
+Ran-wrote command source sink bytes doc (Ok done) whole end limited accepted wrote =
+    told source.old source.new bytes (λ b. (text : List ℕ) × HasText command b text × Appends sink.old sink.new text) whole end
+    (text_of command doc, record { limited = limited; doc = doc; accepted = accepted; text_is = refl }, wrote)
+Ran-wrote command source sink bytes doc (Err WriteFault) whole end limited accepted wrote = (
+  told source.old source.new bytes (λ b. (text : List ℕ) × HasText command b text × AppendsPart sink.old sink.new text) whole end
+      (text_of command doc, record { limited = limited; doc = doc; accepted = accepted; text_is = refl }, wrote.0),
   wrote.1,
 )
-Ran-wrote source sink bytes plan (Err NoMemory) whole end limited accepted wrote = wrote
-Ran-wrote source sink bytes plan (Err Usage) whole end limited accepted wrote = absurd wrote
-Ran-wrote source sink bytes plan (Err (Document fault)) whole end limited accepted wrote = absurd wrote
-Ran-wrote source sink bytes plan (Err ReadFault) whole end limited accepted wrote = absurd wrote
-Ran-wrote source sink bytes plan (Err TooLong) whole end limited accepted wrote = absurd wrote
+Ran-wrote command source sink bytes doc (Err NoMemory) whole end limited accepted wrote = wrote
+Ran-wrote command source sink bytes doc (Err Usage) whole end limited accepted wrote = absurd wrote
+Ran-wrote command source sink bytes doc (Err (Document fault)) whole end limited accepted wrote = absurd wrote
+Ran-wrote command source sink bytes doc (Err ReadFault) whole end limited accepted wrote = absurd wrote
+Ran-wrote command source sink bytes doc (Err TooLong) whole end limited accepted wrote = absurd wrote
 
 pub known_status : (result : Result Unit Stop) → IsStatus (ended_of result).status
 known_status (Ok done) = (0, omega arith, refl)

@@ -1,6 +1,6 @@
 -- How a command ends: its statuses.
 use Rattle.std.specs.Prelude.{ℕ, Option, None, Some, Result, Ok, Err}
-use Rattle.scorpio_cli.specs.declared.document.DocFault.{DocFault}
+use Rattle.doc_text.specs.declared.fault.DocFault.{DocFault}
 use Rattle.scorpio_cli.specs.declared.ended.Stop.{Stop}
 use Rattle.scorpio_cli.specs.declared.ended.Stop.TheVariants.{Usage, Document, ReadFault, WriteFault, NoMemory, TooLong}
 use Rattle.scorpio_cli.specs.declared.ended.Ended.{Ended}

@@ -1,7 +1,6 @@
-pub mod Document
+pub mod Commands
 pub mod Ended
 pub mod Line
 pub mod Outcome
-pub mod Reading
 pub mod Top
 pub mod Entries

@@ -1,9 +1,10 @@
 -- What a command did, by the way it ended.
 use Rattle.std.specs.Prelude.{◌≡◌, ℕ, List, Option, IfSome, Result, Ok, Err}
 use Rattle.outside_io.specs.Streams.{Rose, Appends, AppendsPart}
+use Rattle.scorpio_cli.specs.declared.command.Command.{Command}
 use Rattle.scorpio_cli.specs.declared.ended.Stop.{Stop}
 use Rattle.scorpio_cli.specs.declared.ended.Stop.TheVariants.{Usage, Document, ReadFault, WriteFault, NoMemory, TooLong}
-use Rattle.scorpio_cli.specs.Top.{HasFault, WritesText, WritesPart, IsTooLong}
+use Rattle.scorpio_cli.specs.Top.{HasFault, WritesFor, WritesPartFor, IsTooLong}
 
 -- a source or a sink before and after: its bytes, where it tells them, and its count of faults
 pub record Stream : Type 0 where
@@ -20,11 +21,11 @@ Wrote sink text (Err NoMemory) = sink.new ≡ sink.old
 Wrote sink text (Err _) = ⊥
 
 -- of a command that reads a description and writes its text: what was written, and the cause of each refusal
-abbrev pub Ran : Stream → Stream → Result Unit Stop → Type 0
-Ran source sink (Ok done) = WritesText source.old sink.old sink.new
-Ran source sink (Err Usage) = ⊥
-Ran source sink (Err (Document fault)) = IfSome source.old (λ bytes. HasFault bytes fault) × (sink.new ≡ sink.old)
-Ran source sink (Err ReadFault) = Rose source.before source.now × (sink.new ≡ sink.old)
-Ran source sink (Err WriteFault) = WritesPart source.old sink.old sink.new × Rose sink.before sink.now
-Ran source sink (Err NoMemory) = sink.new ≡ sink.old
-Ran source sink (Err TooLong) = IsTooLong source.old source.new × (sink.new ≡ sink.old)
+abbrev pub Ran : Command → Stream → Stream → Result Unit Stop → Type 0
+Ran command source sink (Ok done) = WritesFor command source.old sink.old sink.new
+Ran command source sink (Err Usage) = ⊥
+Ran command source sink (Err (Document fault)) = IfSome source.old (λ bytes. HasFault bytes fault) × (sink.new ≡ sink.old)
+Ran command source sink (Err ReadFault) = Rose source.before source.now × (sink.new ≡ sink.old)
+Ran command source sink (Err WriteFault) = WritesPartFor command source.old sink.old sink.new × Rose sink.before sink.now
+Ran command source sink (Err NoMemory) = sink.new ≡ sink.old
+Ran command source sink (Err TooLong) = IsTooLong source.old source.new × (sink.new ≡ sink.old)

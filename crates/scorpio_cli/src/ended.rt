@@ -2,10 +2,10 @@ ghost use Rattle.std.specs.Prelude.{◌≡◌};
 ghost use Rattle.scorpio_cli.specs.Ended.{ended_of};
 ghost use Rattle.scorpio_cli.specs.declared.ended.Stop.TheVariants.{NoMemory as OutOfMemory};
 
-use crate::document::DocFault;
+use mesh_doc::DocFault;
 
 /// Why a command ended before its whole text was written.
-#[derive(Clone, Copy, Debug, PartialEq, Eq)]
+#[derive(Debug, Drop)]
 pub enum Stop {
     /// The words are none of the forms.
     Usage,
@@ -27,7 +27,7 @@ impl From<mesh_gen::NoMemory> for Stop {
 }
 
 /// How a command ended.
-#[derive(Clone, Copy, Debug, PartialEq, Eq)]
+#[derive(Debug, Drop)]
 pub struct Ended {
     /// 0: the whole text was written. 1: usage. 2: a faulty document. 4: a read failed. 5: a write failed.
     /// 6: memory was wanting. 7: the input was too long.

@@ -1,14 +1,12 @@
 //! `scorpio`: from words and bytes to text and a status.
 #![tactic(auto)]
 
-mod document;
+mod command;
 mod ended;
 mod line;
 mod messages;
 mod order;
-mod reading;
 mod top;
-mod words;
 
 use ended::{Ended, Stop};
 use outside_io::{StdSink, StdSource};

@@ -6,14 +6,14 @@ ghost use Rattle.mesh_gen.specs.TileSet.{set_of};
 ghost use Rattle.order_tracker.specs.Order.{order_from};
 ghost use Rattle.order_tracker.specs.Tracker.{left_of};
 ghost use Rattle.outside_io.specs.Streams.{Rose, Appends, AppendsPart};
-ghost use Rattle.scorpio_cli.specs.Document.{plan_of, HasDefaults, HasTilesPosted};
+ghost use Rattle.doc_text.specs.Doc.{doc_of};
 ghost use Rattle.scorpio_cli.specs.Entries.{entries_text, has_begun, rest_text};
 ghost use Rattle.scorpio_cli.specs.Line.{line_of, order_text};
 ghost use Rattle.scorpio_cli.specs.Outcome.{Wrote};
 
-use crate::document::Document;
 use crate::ended::Stop;
 use crate::line::write_number;
+use mesh_doc::Document;
 use mesh_gen::Tiles;
 use notify_net::Latches;
 use order_tracker::Tracker;
@@ -27,19 +27,12 @@ pub(crate) fn write_order<K: Sink>(
     sink: &mut K,
     document: &Document,
 ) -> Result<(), Stop>
-    requires { HasTilesPosted document.now }
-    ensures { Wrote (record { old = K.held sink.old; new = K.held sink.new; before = K.faults sink.old; now = K.faults sink.new }) (order_text (plan_of document.now)) result }
+    ensures { Wrote (record { old = K.held sink.old; new = K.held sink.new; before = K.faults sink.old; now = K.faults sink.new }) (order_text (doc_of document.now)) result }
 {
     let mut latches = Latches::open(alloc, &document.mesh)?;
     let mut tracker = Tracker::open(alloc, &document.mesh)?;
     let ticks = document.mesh.window;
-    match write_line(
-        sink,
-        &mut latches,
-        &mut tracker,
-        ticks,
-        document.posts.as_slice(),
-    ) {
+    match write_line(sink, &mut latches, &mut tracker, ticks, document.windows()) {
         Ok(()) => Ok(()),
         Err(WriteFault) => Err(Stop::WriteFault),
     }

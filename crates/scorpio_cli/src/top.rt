@@ -1,21 +1,22 @@
 ghost use Rattle.std.specs.Prelude.{◌≡◌, ◌≢◌, ◌↔◌, ◌⊎◌, ◌≤◌, map, IfSome, IsSome, IsNone, Some};
 ghost use Rattle.outside_io.specs.Streams.{Rose};
-ghost use Rattle.scorpio_cli.specs.Outcome.{Ran};
-ghost use Rattle.scorpio_cli.specs.Top.{IsForm, IsStatus, HasFault, WritesText, WritesPart, IsTooLong};
+ghost use Rattle.doc_text.specs.Doc.{doc_of};
+ghost use Rattle.scorpio_cli.specs.Commands.{text_of};
+ghost use Rattle.scorpio_cli.specs.Outcome.{Ran, Wrote};
+ghost use Rattle.scorpio_cli.specs.Top.{IsNoForm, IsStatus, HasFault, WritesText, WritesPart, IsTooLong};
 
-use crate::document::DocEnd;
+use crate::command::Command;
 use crate::ended::{Ended, Stop};
 use crate::order::write_order;
-use crate::reading::read_document;
-use crate::words::is_form;
-use outside_io::{ReadEnd, Sink, Source, read_all};
+use mesh_doc::{DocEnd, Document, read_document, write_document};
+use outside_io::{ReadEnd, Sink, Source, WriteFault, read_all};
 use std::alloc::Global;
 
 // How many bytes an input may have.
 const INPUT_LIMIT: u32 = 1 << 20;
 
 /// Does what the words say, over what comes from the source, into the sink: all that the program does.
-/// `order`: writes the order of the requests that the description posts.
+/// `order` writes the order of the requests that the description posts, `show` the description in its canonical text.
 pub fn scorpio<S: Source, K: Sink>(
     alloc: Global,
     words: &[&str],
@@ -23,14 +24,14 @@ pub fn scorpio<S: Source, K: Sink>(
     sink: &mut K,
 ) -> Ended
     // It ended well: the whole text of the description was written.
-    ensures ok { result.status ≡ 0 → WritesText (S.left source.old) (K.held sink.old) (K.held sink.new) }
+    ensures ok { result.status ≡ 0 → WritesText (map (λ word. word.now) words.now) (S.left source.old) (K.held sink.old) (K.held sink.new) }
 
     // Why it ended otherwise.
-    ensures usage { (result.status ≡ 1) ↔ (¬ IsForm (map (λ word. word.now) words.now)) }
+    ensures usage { (result.status ≡ 1) ↔ IsNoForm (map (λ word. word.now) words.now) }
     ensures document { result.status ≡ 2 → IfSome (S.left source.old) (λ bytes. IfSome result.doc_fault (HasFault bytes)) }
     ensures doc_fault { IsSome result.doc_fault ↔ (result.status ≡ 2) }
     ensures read_fault { result.status ≡ 4 → Rose (S.faults source.old) (S.faults source.new) }
-    ensures write_fault { result.status ≡ 5 → Rose (K.faults sink.old) (K.faults sink.new) × WritesPart (S.left source.old) (K.held sink.old) (K.held sink.new) }
+    ensures write_fault { result.status ≡ 5 → Rose (K.faults sink.old) (K.faults sink.new) × WritesPart (map (λ word. word.now) words.now) (S.left source.old) (K.held sink.old) (K.held sink.new) }
     ensures too_long { result.status ≡ 7 → IsTooLong (S.left source.old) (S.left source.new) }
     ensures statuses { IsStatus result.status }
     ensures at { result.at ≡ 0 }
@@ -38,28 +39,20 @@ pub fn scorpio<S: Source, K: Sink>(
     // Nothing is written but by a run that came to writing.
     ensures silent { result.status ≢ 0 → result.status ≢ 5 → K.held sink.new ≡ K.held sink.old }
 {
-    Ended::of(run(alloc, words, source, sink))
+    match Command::of(words) {
+        Some(command) => Ended::of(run(alloc, command, source, sink)),
+        None => Ended::of(Err(Stop::Usage)),
+    }
 }
 
+// Reads the description, and writes what the command wants of it.
 fn run<S: Source, K: Sink>(
     alloc: Global,
-    words: &[&str],
+    command: Command,
     source: &mut S,
     sink: &mut K,
 ) -> Result<(), Stop>
-    ensures usage { (result ≡ Err Stop.Usage) ↔ (¬ IsForm (map (λ word. word.now) words.now)) }
-    ensures unread { result ≡ Err Stop.Usage → K.held sink.new ≡ K.held sink.old }
-    ensures ran { result ≢ Err Stop.Usage → Ran (record { old = S.left source.old; new = S.left source.new; before = S.faults source.old; now = S.faults source.new })
-        (record { old = K.held sink.old; new = K.held sink.new; before = K.faults sink.old; now = K.faults sink.new }) result }
-{
-    if !is_form(words) {
-        return Err(Stop::Usage);
-    }
-    order(alloc, source, sink)
-}
-
-fn order<S: Source, K: Sink>(alloc: Global, source: &mut S, sink: &mut K) -> Result<(), Stop>
-    ensures { Ran (record { old = S.left source.old; new = S.left source.new; before = S.faults source.old; now = S.faults source.new })
+    ensures { Ran command (record { old = S.left source.old; new = S.left source.new; before = S.faults source.old; now = S.faults source.new })
         (record { old = K.held sink.old; new = K.held sink.new; before = K.faults sink.old; now = K.faults sink.new }) result }
 {
     let bytes = match read_all(alloc, source, INPUT_LIMIT) {
@@ -69,8 +62,26 @@ fn order<S: Source, K: Sink>(alloc: Global, source: &mut S, sink: &mut K) -> Res
         Err(ReadEnd::NoMemory) => return Err(Stop::NoMemory),
     };
     match read_document(alloc, &bytes) {
-        Ok(document) => write_order(alloc, sink, &document),
+        Ok(document) => write_text(alloc, command, &document, sink),
         Err(DocEnd::Fault(fault)) => Err(Stop::Document(fault)),
         Err(DocEnd::NoMemory) => Err(Stop::NoMemory),
+    }
+}
+
+// The command's text of a description.
+fn write_text<K: Sink>(
+    alloc: Global,
+    command: Command,
+    document: &Document,
+    sink: &mut K,
+) -> Result<(), Stop>
+    ensures { Wrote (record { old = K.held sink.old; new = K.held sink.new; before = K.faults sink.old; now = K.faults sink.new }) (text_of command (doc_of document.now)) result }
+{
+    match command {
+        Command::Order => write_order(alloc, sink, document),
+        Command::Show => match write_document(document, sink) {
+            Ok(()) => Ok(()),
+            Err(WriteFault) => Err(Stop::WriteFault),
+        },
     }
 }

@@ -1,5 +1,5 @@
-use Rattle.std.proofs.Common.{◌<◌, length, ◌≡◌, arith}
-use Rattle.std.proofs.lemmas.List.{take_more, take_all}
+use Rattle.std.proofs.Common.{◌<◌, length, arith}
+use Rattle.std.proofs.lemmas.List.{take_more}
 use Rattle.scorpio_cli.proofs.order.merge.Goals as goal
 
 pub loop-tile-preserved : goal.loop-tile-preserved

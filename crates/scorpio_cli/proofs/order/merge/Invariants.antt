@@ -1,6 +1,5 @@
 -- The posts so far, and then the ticks so far.
-use Rattle.std.proofs.Common.{◌≡◌, ◌<◌, ℕ, take}
-use Rattle.mesh_gen.specs.Grid.{tiles}
+use Rattle.std.proofs.Common.{take}
 use Rattle.notify_net.specs.Merge.{IsAtPhase}
 use Rattle.scorpio_cli.proofs.order.merge.Given as goal
 

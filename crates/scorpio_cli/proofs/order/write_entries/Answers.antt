@@ -1,4 +1,4 @@
-use Rattle.std.proofs.Common.{◌≡◌, ◌++◌, ℕ, List, Bool, true, drop, length, ◌∙◌, sym, ap, subst, arith}
+use Rattle.std.proofs.Common.{◌≡◌, length, ◌∙◌, ap, subst, arith}
 use Rattle.order_tracker.specs.Tracker.{left_of}
 use Rattle.scorpio_cli.specs.Entries.{entry_text, entries_text, has_begun}
 use Rattle.scorpio_cli.proofs.Following.{heads, count_up}

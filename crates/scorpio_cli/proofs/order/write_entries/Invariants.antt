@@ -1,5 +1,5 @@
 -- What is written and what is left make the whole, and no tile has more entries used than were written.
-use Rattle.std.proofs.Common.{◌≡◌, ◌+◌, ◌<◌, ◌≤◌, ℕ, Bool, length}
+use Rattle.std.proofs.Common.{◌≡◌, ◌+◌, ◌≤◌, ℕ, length}
 use Rattle.std.specs.Prelude.{slice_index}
 use Rattle.order_tracker.specs.Tracker.{left_of}
 use Rattle.scorpio_cli.specs.Entries.{entries_text, has_begun}

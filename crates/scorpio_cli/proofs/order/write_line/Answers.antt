@@ -1,4 +1,4 @@
-use Rattle.std.proofs.Common.{false, ◌≡◌, ◌+◌, ◌++◌, [], ◌∷◌, ℕ, List, drop, length, map, refl, ◌∙◌, sym, ap, subst, arith, length-append}
+use Rattle.std.proofs.Common.{false, ◌≡◌, [], ◌∷◌, length, map, refl, ◌∙◌, ap, subst, arith, length-append}
 use Rattle.std.specs.Prelude.{slice_index}
 use Rattle.std.proofs.lemmas.List.{drop_all}
 use Rattle.mesh_gen.specs.TileSet.{set_of}
@@ -6,7 +6,7 @@ use Rattle.mesh_gen.proofs.TileSets.{set_of-positive, set_of-lt}
 use Rattle.order_tracker.specs.Order.{expansion, order_from}
 use Rattle.order_tracker.specs.Tracker.{TrackerState, left_of}
 use Rattle.order_tracker.proofs.Turns.{length-expansion-le}
-use Rattle.scorpio_cli.specs.Entries.{entries_text, has_begun, rest_text}
+use Rattle.scorpio_cli.specs.Entries.{entries_text, rest_text}
 use Rattle.scorpio_cli.specs.Line.{line_of}
 use Rattle.scorpio_cli.proofs.Lines.{Writes, Writes-nothing, Writes-more, Writes-all, Writes-cut, line_of-rest, on_error, on_ok_more, on_error_more}
 use Rattle.scorpio_cli.proofs.Windows.{left_is_window, step_text, tiles_of_window, some_tile}

@@ -1,5 +1,5 @@
 -- The windows so far are used up, and what is written and what is left make the line.
-use Rattle.std.proofs.Common.{◌≡◌, ◌+◌, ◌*◌, ◌<◌, ◌≤◌, ℕ, Bool, [], length, drop, map}
+use Rattle.std.proofs.Common.{◌≡◌, ◌*◌, ◌<◌, ◌≤◌, ℕ, [], drop, map}
 use Rattle.std.specs.Prelude.{slice_index}
 use Rattle.mesh_gen.specs.TileSet.{set_of}
 use Rattle.order_tracker.specs.Order.{order_from}

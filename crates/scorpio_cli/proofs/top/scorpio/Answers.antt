@@ -1,5 +1,5 @@
 use Rattle.scorpio_cli.proofs.Outcomes.{known_status}
 use Rattle.scorpio_cli.proofs.top.scorpio.Goals as goal
 
-pub returns-clause-statuses : goal.returns-clause-statuses
-returns-clause-statuses g c = rw c.of.ensures (known_status c.run.result)
+pub returns-in-Some-clause-statuses : goal.returns-in-Some-clause-statuses
+returns-in-Some-clause-statuses g c = rw c.of-in-Some.ensures (known_status c.run.result)

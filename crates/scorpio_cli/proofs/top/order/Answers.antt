@@ -1,9 +1,0 @@
-use Rattle.std.proofs.Common.{◌∙◌, sym, ap}
-use Rattle.scorpio_cli.proofs.Outcomes.{Ran-wrote}
-use Rattle.scorpio_cli.specs.Document.{plan_of}
-use Rattle.scorpio_cli.proofs.top.order.Goals as goal
-
-pub returns-in-Ok-read_document : goal.returns-in-Ok-read_document
-returns-in-Ok-read_document g c =
-    let accepted = rw c.deref.ensures.value at c.in-Ok-read_document.ensures.ok in
-    Ran-wrote _ _ c.in-Ok.bytes.items (plan_of c.in-Ok-read_document.document) c.write_order.result c.in-Ok.ensures.whole c.in-Ok.ensures.end c.in-Ok.ensures.limited accepted c.write_order.ensures
