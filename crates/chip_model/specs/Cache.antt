@@ -2,6 +2,8 @@
 use Rattle.std.specs.Prelude.{ℕ, ◌==◌, Bool, true, false, ◌||◌, List, [], ◌∷◌, Option, Some, None, is_some, option_map, slice_index_or, set, replicate, if◌then◌else◌}
 use Rattle.chip_model.specs.declared.line_state.State.{State}
 use Rattle.chip_model.specs.declared.line_state.State.TheVariants.{M, O, S}
+use Rattle.chip_model.specs.declared.victim.Victim.{Victim}
+use Rattle.chip_model.specs.declared.victim.Victim.TheVariants.{Empty, DropS, Put}
 use Rattle.chip_model.specs.Chip.{Chip, set_number}
 
 pub record Held : Type 0 where
@@ -99,3 +101,26 @@ without_shared chip line cache = option_map (λ ways. with_ways chip line ways c
 -- what the lowest way of a line's set holds
 unfoldable pub lowest_for : Chip → ℕ → Cache → Option Held
 lowest_for chip line cache = lowest (ways_for chip cache line)
+
+-- What leaves a full set before one more line comes in: its lowest shared line, and where none is shared the line of its
+-- lowest way.
+
+abbrev pub lowest_shared : Ways → Option ℕ
+lowest_shared [] = None
+lowest_shared (None ∷ ways) = lowest_shared ways
+lowest_shared (Some held ∷ ways) = if is_shared held.state then Some held.line else lowest_shared ways
+
+abbrev pub put_of : Option Held → Victim
+put_of None = Empty
+put_of (Some held) = Put held.line
+
+abbrev pub victim_among : Option ℕ → Option Held → Victim
+victim_among (Some line) lowest = DropS line
+victim_among None lowest = put_of lowest
+
+abbrev pub victim_of : Ways → Victim
+victim_of ways = if has_empty ways then Empty else victim_among (lowest_shared ways) (lowest ways)
+
+-- what has to leave before a line comes in
+unfoldable pub victim : Chip → Cache → ℕ → Victim
+victim chip cache line = victim_of (ways_for chip cache line)

@@ -23,7 +23,7 @@ use Rattle.chip_model.specs.declared.owner.Owner.TheVariants.{Memory, Tile}
 use Rattle.chip_model.specs.Chip.{chip_of, set_number}
 use Rattle.chip_model.specs.Windows.{posted, ticked, taken_by}
 use Rattle.chip_model.specs.Copies.{entered, hopped, local_place, served}
-use Rattle.chip_model.specs.Replies.{sent, forwarded, received}
+use Rattle.chip_model.specs.Replies.{sent, next_channel, forwarded, received}
 use Rattle.chip_model.specs.OrderedNetwork.{Interface, injected, request_posted, network_ticked, vector_taken, expected_at, copy_hopped, delivered_next}
 use Rattle.chip_model.specs.Cache.{Held, lookup, has_room, installed, without_line, without_shared, lowest_for}
 use Rattle.chip_model.specs.Misses.{Demand, WriteBack, wanted, marked_sent}
@@ -154,11 +154,11 @@ along d (Some s) [] = state_holds d s
 along d (Some s) (event ∷ events) = state_holds d s && along d (after in_order (chip_of d) s event) events
 
 pub dirty_eviction_holds : along dirty_eviction (Some (opening dirty_eviction)) (swept_from_first dirty_eviction 1000000 40).journal ≡ true
-unfolding digits x_of y_of has without_port has_tile tree_outs slots at put weigh loaded set_number posted ticked taken_by entered hopped local_place served sent forwarded received injected request_posted network_ticked vector_taken expected_at copy_hopped delivered_next lookup has_room installed without_line without_shared lowest_for wanted marked_sent holding snooped data_arrived answered back_arrived request_delivered message_arrived request_sent message_sent accessed core_event in_order finished unit_at step after run owner_after owner owns witness line_value chip_slots sweeps
+unfolding digits x_of y_of has without_port has_tile tree_outs slots at put weigh loaded set_number posted ticked taken_by entered hopped local_place served sent next_channel forwarded received injected request_posted network_ticked vector_taken expected_at copy_hopped delivered_next lookup has_room installed without_line without_shared lowest_for wanted marked_sent holding snooped data_arrived answered back_arrived request_delivered message_arrived request_sent message_sent accessed core_event in_order finished unit_at step after run owner_after owner owns witness line_value chip_slots sweeps
 dirty_eviction_holds = refl
 
 pub store_buffering_holds : along store_buffering (Some (opening store_buffering)) (swept_from_first store_buffering 1000000 40).journal ≡ true
-unfolding digits x_of y_of has without_port has_tile tree_outs slots at put weigh loaded set_number posted ticked taken_by entered hopped local_place served sent forwarded received injected request_posted network_ticked vector_taken expected_at copy_hopped delivered_next lookup has_room installed without_line without_shared lowest_for wanted marked_sent holding snooped data_arrived answered back_arrived request_delivered message_arrived request_sent message_sent accessed core_event in_order finished unit_at step after run owner_after owner owns witness line_value chip_slots sweeps
+unfolding digits x_of y_of has without_port has_tile tree_outs slots at put weigh loaded set_number posted ticked taken_by entered hopped local_place served sent next_channel forwarded received injected request_posted network_ticked vector_taken expected_at copy_hopped delivered_next lookup has_room installed without_line without_shared lowest_for wanted marked_sent holding snooped data_arrived answered back_arrived request_delivered message_arrived request_sent message_sent accessed core_event in_order finished unit_at step after run owner_after owner owns witness line_value chip_slots sweeps
 store_buffering_holds = refl
 
 -- two tiles read and write two lines that share a way: upgrades, owners' copies, write-backs, and some that come too late
@@ -180,5 +180,5 @@ contention = record {
 
 pub contention_holds : (let s = swept_from_first contention 1000000 80 in
     (along contention (Some (opening contention)) s.journal ≡ true) × (finished s ≡ true))
-unfolding digits x_of y_of has without_port has_tile tree_outs slots at put weigh loaded set_number posted ticked taken_by entered hopped local_place served sent forwarded received injected request_posted network_ticked vector_taken expected_at copy_hopped delivered_next lookup has_room installed without_line without_shared lowest_for wanted marked_sent holding snooped data_arrived answered back_arrived request_delivered message_arrived request_sent message_sent accessed core_event in_order finished unit_at step after run owner_after owner owns witness line_value chip_slots sweeps
+unfolding digits x_of y_of has without_port has_tile tree_outs slots at put weigh loaded set_number posted ticked taken_by entered hopped local_place served sent next_channel forwarded received injected request_posted network_ticked vector_taken expected_at copy_hopped delivered_next lookup has_room installed without_line without_shared lowest_for wanted marked_sent holding snooped data_arrived answered back_arrived request_delivered message_arrived request_sent message_sent accessed core_event in_order finished unit_at step after run owner_after owner owns witness line_value chip_slots sweeps
 contention_holds = (refl, refl)

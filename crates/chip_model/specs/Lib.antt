@@ -31,3 +31,4 @@ pub mod UnitShape
 pub mod NetworkShape
 pub mod ChipInvariant
 pub mod InvariantRows
+pub mod CacheRows

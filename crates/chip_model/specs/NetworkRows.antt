@@ -13,7 +13,7 @@ use Rattle.vc_bank.specs.Places.{Network, slots, at, put}
 use Rattle.chip_model.specs.Chip.{Chip}
 use Rattle.chip_model.specs.Windows.{posted, ticked, taken_by}
 use Rattle.chip_model.specs.Copies.{entered, hopped, local_place, served}
-use Rattle.chip_model.specs.Replies.{no_replies, sent, forwarded, received, is_empty}
+use Rattle.chip_model.specs.Replies.{no_replies, sent, forwarded, received, next_channel, is_empty}
 use Rattle.chip_model.specs.OrderedNetwork.{OrderedNetwork, opening_network, sources, injected, request_posted, network_ticked, vector_taken, expected_at, copy_hopped, delivered_next}
 use Rattle.chip_model.specs.Schedules.{slots as chip_slots}
 use Rattle.chip_model.specs.Delivery.{network_step, network_swept, window_events, passes, delivered_lists}
@@ -77,5 +77,5 @@ pub a_message_goes_by_its_row_and_then_by_its_column :
     × (option_and_then (λ net. forwarded two_by_two net 3 N 0) two_hops_on ≡ None)
     × (option_map (λ net. option_map {U = Msg × Bool} (λ out. (out.0, is_empty out.1)) (received net 3 N 0)) two_hops_on ≡ Some (Some (message, true)))
     × (rank two_by_two 0 L ≡ 4) × (rank two_by_two 1 W ≡ 2) × (rank two_by_two 3 N ≡ 0)
-unfolding x_of y_of slots at put sent forwarded received
+unfolding x_of y_of slots at put sent next_channel forwarded received
 a_message_goes_by_its_row_and_then_by_its_column = (refl, refl, refl, refl, refl, refl, refl, refl, refl)

@@ -35,12 +35,16 @@ words_at memory line = take 4 (drop (4 * line) memory)
 abbrev pub record_at : Chip → ℕ → List ℕ → ℕ → Option LineRecord
 record_at chip tile memory line = if home chip line == tile then Some (opening_record (words_at memory line)) else None
 
+-- the records of a tile's controller, on such a memory
+abbrev pub opening_records : Chip → ℕ → List ℕ → Records
+opening_records chip tile memory = map (record_at chip tile memory) (upwards 0 chip.lines)
+
 abbrev pub opening_node : Chip → ℕ → List ℕ → Node
 opening_node chip tile memory = record {
   chip = chip;
   tile = tile;
   side = record { cache = empty_cache chip; misses = no_misses };
-  records = map (record_at chip tile memory) (upwards 0 chip.lines);
+  records = opening_records chip tile memory;
   out = [];
   delivered = 0;
 }

@@ -9,6 +9,7 @@ use Rattle.mesh_gen.specs.Ports.{port_number, opposite}
 use Rattle.mesh_gen.specs.Routes.{route}
 use Rattle.vc_bank.specs.Channels.{empty_channels, lowest_free}
 use Rattle.vc_bank.specs.Places.{Network, at, put}
+use Rattle.chip_model.specs.declared.channel.Channel.{Channel}
 use Rattle.chip_model.specs.Copies.{channels_of}
 use Rattle.chip_model.specs.Partial.{when, ◌>>=◌}
 
@@ -22,13 +23,19 @@ sent net r msg =
     lowest_free (channels_of net r) (port_number L) >>= (λ slot.
     Some (put net r (port_number L) slot (Some msg)))
 
--- a message goes on to the next router of its route, into the lowest free channel there; none is next at its own tile
+-- the channel to which a message goes next: the lowest free one at the port by which its route enters the next router; no router is next at its own tile
+unfoldable pub next_channel : Grid → Network Msg → ℕ → Msg → Option Channel
+next_channel g net r msg = let out = route g r msg.to in
+    neighbour g r out >>= (λ to.
+    lowest_free (channels_of net to) (port_number (opposite out)) >>= (λ slot.
+    Some (record { router = to; port = opposite out; slot = slot })))
+
+-- the message in a channel goes on to the next one
 unfoldable pub forwarded : Grid → Network Msg → ℕ → Port → ℕ → Option (Network Msg)
 forwarded g net r port slot =
-    at net r (port_number port) slot >>= (λ msg. let out = route g r msg.to in
-    neighbour g r out >>= (λ to.
-    lowest_free (channels_of net to) (port_number (opposite out)) >>= (λ entry.
-    Some (put (put net r (port_number port) slot None) to (port_number (opposite out)) entry (Some msg)))))
+    at net r (port_number port) slot >>= (λ msg.
+    next_channel g net r msg >>= (λ next.
+    Some (put (put net r (port_number port) slot None) next.router (port_number next.port) next.slot (Some msg))))
 
 -- the message that leaves a channel at its own tile, and the messages then
 unfoldable pub received : Network Msg → ℕ → Port → ℕ → Option (Msg × Network Msg)

@@ -18,7 +18,7 @@ use Rattle.doc_text.specs.Doc.{Doc}
 use Rattle.chip_model.specs.Chip.{chip_of, set_number}
 use Rattle.chip_model.specs.Windows.{posted, ticked, taken_by}
 use Rattle.chip_model.specs.Copies.{entered, hopped, local_place, served}
-use Rattle.chip_model.specs.Replies.{sent, forwarded, received}
+use Rattle.chip_model.specs.Replies.{sent, next_channel, forwarded, received}
 use Rattle.chip_model.specs.OrderedNetwork.{injected, request_posted, network_ticked, vector_taken, expected_at, copy_hopped, delivered_next}
 use Rattle.chip_model.specs.Cache.{lookup, has_room, installed, without_line, without_shared, lowest_for}
 use Rattle.chip_model.specs.Misses.{wanted, marked_sent}
@@ -215,22 +215,22 @@ pub one_tile_prints :
     × (report_text (swept_report one_tile 1000000 20) ≡ one_tile_text)
     × (report_text (swept_report one_tile 10 20) ≡ one_event_less_text)
     × (report_text (swept_report one_tile 11 20) ≡ one_tile_text)
-unfolding digits x_of y_of has without_port has_tile tree_outs slots at put loaded set_number posted ticked taken_by entered hopped local_place served sent forwarded received injected request_posted network_ticked vector_taken expected_at copy_hopped delivered_next lookup has_room installed without_line without_shared lowest_for wanted marked_sent holding snooped data_arrived answered back_arrived request_delivered message_arrived request_sent message_sent accessed core_event in_order finished unit_at step after run owner_after owner witness report_of chip_slots sweeps
+unfolding digits x_of y_of has without_port has_tile tree_outs slots at put loaded set_number posted ticked taken_by entered hopped local_place served sent next_channel forwarded received injected request_posted network_ticked vector_taken expected_at copy_hopped delivered_next lookup has_room installed without_line without_shared lowest_for wanted marked_sent holding snooped data_arrived answered back_arrived request_delivered message_arrived request_sent message_sent accessed core_event in_order finished unit_at step after run owner_after owner witness report_of chip_slots sweeps
 one_tile_prints = (refl, refl, refl, refl)
 
 -- the run of the schedule's events is the state that the schedule leaves
 pub store_buffering_prints :
     Begins (swept_report store_buffering 1000000 40) store_buffering_text
-unfolding digits x_of y_of has without_port has_tile tree_outs slots at put loaded set_number posted ticked taken_by entered hopped local_place served sent forwarded received injected request_posted network_ticked vector_taken expected_at copy_hopped delivered_next lookup has_room installed without_line without_shared lowest_for wanted marked_sent holding snooped data_arrived answered back_arrived request_delivered message_arrived request_sent message_sent accessed core_event in_order finished unit_at step after run owner_after owner witness report_of chip_slots sweeps
+unfolding digits x_of y_of has without_port has_tile tree_outs slots at put loaded set_number posted ticked taken_by entered hopped local_place served sent next_channel forwarded received injected request_posted network_ticked vector_taken expected_at copy_hopped delivered_next lookup has_room installed without_line without_shared lowest_for wanted marked_sent holding snooped data_arrived answered back_arrived request_delivered message_arrived request_sent message_sent accessed core_event in_order finished unit_at step after run owner_after owner witness report_of chip_slots sweeps
 store_buffering_prints = refl
 
 pub dirty_eviction_prints : Begins (swept_report dirty_eviction 1000000 40) dirty_eviction_text
-unfolding digits x_of y_of has without_port has_tile tree_outs slots at put loaded set_number posted ticked taken_by entered hopped local_place served sent forwarded received injected request_posted network_ticked vector_taken expected_at copy_hopped delivered_next lookup has_room installed without_line without_shared lowest_for wanted marked_sent holding snooped data_arrived answered back_arrived request_delivered message_arrived request_sent message_sent accessed core_event in_order finished unit_at step after run owner_after owner witness report_of chip_slots sweeps
+unfolding digits x_of y_of has without_port has_tile tree_outs slots at put loaded set_number posted ticked taken_by entered hopped local_place served sent next_channel forwarded received injected request_posted network_ticked vector_taken expected_at copy_hopped delivered_next lookup has_room installed without_line without_shared lowest_for wanted marked_sent holding snooped data_arrived answered back_arrived request_delivered message_arrived request_sent message_sent accessed core_event in_order finished unit_at step after run owner_after owner witness report_of chip_slots sweeps
 dirty_eviction_prints = refl
 
 pub false_sharing_ends : (let r = swept_report false_sharing 1000000 60 in
     (length r.requests ≡ 4) × (r.windows ≡ 1) × (r.hops ≡ 12) × (r.memory ≡ 10 ∷ 11 ∷ 12 ∷ 13 ∷ []))
-unfolding digits x_of y_of has without_port has_tile tree_outs slots at put loaded set_number posted ticked taken_by entered hopped local_place served sent forwarded received injected request_posted network_ticked vector_taken expected_at copy_hopped delivered_next lookup has_room installed without_line without_shared lowest_for wanted marked_sent holding snooped data_arrived answered back_arrived request_delivered message_arrived request_sent message_sent accessed core_event in_order finished unit_at step after run owner_after owner witness report_of chip_slots sweeps
+unfolding digits x_of y_of has without_port has_tile tree_outs slots at put loaded set_number posted ticked taken_by entered hopped local_place served sent next_channel forwarded received injected request_posted network_ticked vector_taken expected_at copy_hopped delivered_next lookup has_room installed without_line without_shared lowest_for wanted marked_sent holding snooped data_arrived answered back_arrived request_delivered message_arrived request_sent message_sent accessed core_event in_order finished unit_at step after run owner_after owner witness report_of chip_slots sweeps
 false_sharing_ends = (refl, refl, refl, refl)
 
 pub one_tile_bound : bound one_tile ≡ 80

@@ -2,6 +2,7 @@
 //! runs are about. `docs/DEFINITIONS.md` is the guide to its definitions.
 #![tactic(auto)]
 
+mod channel;
 mod done;
 mod line_state;
 mod net_copy;
@@ -10,6 +11,7 @@ mod pending;
 mod victim;
 mod waiting;
 
+pub use channel::Channel;
 pub use done::Done;
 pub use line_state::State;
 pub use net_copy::NetCopy;
