@@ -1,0 +1,44 @@
+-- The request routers as plain data, and what stands in their channels.
+use Rattle.std.specs.Prelude.{◌≡◌, ◌<◌, ℕ, true, false, Option, Some, option_map}
+use Rattle.mesh_gen.specs.declared.port.Port.{Port}
+use Rattle.mesh_gen.specs.Grid.{Grid, tiles, neighbour}
+use Rattle.mesh_gen.specs.Limits.{IsFrom}
+use Rattle.mesh_gen.specs.Ports.{port_number, opposite}
+use Rattle.mesh_gen.specs.Routes.{HasTiles}
+use Rattle.vc_bank.specs.Places.{Network, at}
+use Rattle.chip_model.specs.declared.net_copy.NetCopy.{NetCopy}
+use Rattle.chip_model.specs.Copies.{Name, is_named, owes, channels_of, entry_slot, expects}
+use Rattle.chip_model.specs.NetworkShape.{HasChannels}
+use Rattle.router_xy.specs.declared.way.Way.{Way}
+
+-- the grid of the routers, how many normal channels a port has, and the copies in the channels
+pub record RequestNetwork : Type 0 where
+  pub grid : Grid
+  pub vcs : ℕ
+  pub copies : Network NetCopy
+
+-- no copy of a request stands in any channel
+abbrev pub IsAbsent : Network NetCopy → Name → Type 0
+IsAbsent net name = (router port slot : ℕ) (copy : NetCopy) → at net router port slot ≡ Some copy → is_named name copy.request ≡ false
+
+-- a copy owes a side, a router stands there, and a channel of it takes the copy in
+pub record IsWay (g : Grid) (net : Network NetCopy) (r : ℕ) (port : Port) (slot : ℕ) (out : Port) (expected : Option Name) (way : Way) : Type 0 where
+  pub stands : at net r (port_number port) slot ≡ Some way.copy
+  pub owed : owes way.copy out ≡ true
+  pub next : neighbour g r out ≡ Some way.to
+  pub entry : entry_slot (channels_of net way.to) (opposite out) (expects expected way.copy.request) ≡ Some way.entry
+
+-- a place in a router's channels, by the number of its port
+abbrev pub numbered : Option (Port × ℕ) → Option (ℕ × ℕ)
+numbered place = option_map (λ place. (port_number place.0, place.1)) place
+
+-- the sources of all copies are tiles
+abbrev pub HaveSources : Grid → Network NetCopy → Type 0
+HaveSources g net = (router port slot : ℕ) (copy : NetCopy) → at net router port slot ≡ Some copy → copy.request.source < tiles g
+
+-- there are routers, one for each tile, with their channels, and the copies in them are of tiles' requests
+pub record IsSound (net : RequestNetwork) : Type 0 where
+  pub some : HasTiles net.grid
+  pub vcs_limit : IsFrom 1 8 net.vcs
+  pub channels : HasChannels net.grid net.vcs true net.copies
+  pub sources : HaveSources net.grid net.copies

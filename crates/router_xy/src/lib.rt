@@ -1,0 +1,15 @@
+//! The request routers: copies of a request stand on the tree of its source, and each owes the ports by which it still
+//! has to leave. A copy that owes nothing is gone, and its channel is free.
+#![tactic(auto)]
+
+mod banks;
+mod copies;
+mod local;
+mod routers;
+mod way;
+
+pub use chip_model::NetCopy;
+pub use routers::Routers;
+
+#[cfg(test)]
+mod tests;

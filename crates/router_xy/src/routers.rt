@@ -1,0 +1,210 @@
+ghost use Rattle.std.specs.Prelude.{◌≡◌, ◌<◌, Some, None, true, IsSome, IfOk, IfSome, IfNone, OnOk, OnErr, is_some};
+ghost use Rattle.mesh_gen.specs.Grid.{tiles};
+ghost use Rattle.mesh_gen.specs.Mesh.{grid};
+ghost use Rattle.chip_model.specs.Copies.{no_copies, name_of, entered, hopped, local_place, served};
+ghost use Rattle.chip_model.specs.NetworkShape.{HasChannels};
+ghost use Rattle.router_xy.specs.RequestNetwork.{IsAbsent, IsWay, numbered};
+
+use crate::banks::{copy_at, empty_banks, entry_slot, free_slot, leave, put_into};
+use crate::copies::{expects, left_by};
+use crate::local::place_owing;
+use crate::way::Way;
+use chip_model::NetCopy;
+use mesh_gen::{Mesh, NoChannel, NoMemory, NotEnabled, Port, Request};
+use std::alloc::Global;
+use std::marker::Model;
+use vc_bank::Bank;
+
+/// The copies of requests in the channels of all routers. Contracts see the grid of the routers, how many normal channels
+/// a port has, and the copies.
+#[derive(Drop)]
+pub struct Routers {
+    mesh: Mesh,
+    // How many normal channels a port has. The reserved one has this number.
+    vcs: u8,
+    banks: Vec<Bank<NetCopy>>,
+}
+
+impl Model for Routers {
+    ghost use Rattle.mesh_gen.specs.Mesh.{grid};
+    ghost use Rattle.router_xy.specs.RequestNetwork.{RequestNetwork, IsSound};
+
+    ghost Value = { RequestNetwork };
+
+    ghost view = { λ routers. record { grid = grid routers.mesh; vcs = routers.vcs; copies = routers.banks.items } };
+
+    ghost invariant = { λ routers. IsSound (record { grid = grid routers.mesh; vcs = routers.vcs; copies = routers.banks.items }) };
+}
+
+impl Routers {
+    /// The routers of a mesh, with no copy.
+    pub fn open(alloc: Global, mesh: &Mesh) -> Result<Routers, NoMemory>
+        ensures { IfOk result (λ routers.
+            routers ≡ record { grid = grid mesh.now; vcs = mesh.now.vcs; copies = no_copies (grid mesh.now) mesh.now.vcs }) }
+    {
+        Ok(Routers {
+            mesh: Mesh::of_size(alloc, mesh.cols, mesh.rows, mesh.window)?,
+            vcs: mesh.vcs,
+            banks: empty_banks(alloc, mesh)?,
+        })
+    }
+
+    /// How many tiles there are. Each has a router, whose ports have their normal channels, and those between routers a
+    /// reserved one more.
+    pub fn tiles(&self) -> u8
+        ensures tiles { result ≡ tiles self.now.grid }
+        ensures channels { HasChannels self.now.grid self.now.vcs true self.now.copies }
+    {
+        self.mesh.tiles()
+    }
+
+    /// Puts a request into the lowest free channel of its source's local port, owing every port of the tree there.
+    /// Refused exactly where that port has no free channel.
+    pub fn inject(&mut self, q: Request) -> Result<(), NoChannel>
+        requires source { q.source < tiles self.old.grid }
+        requires absent { IsAbsent self.old.copies (name_of q) }
+        ensures ok { OnOk result (entered self.old.grid self.old.copies q ≡ Some self.new.copies) }
+        ensures err { OnErr result (entered self.old.grid self.old.copies q ≡ None) }
+        ensures kept { OnErr result (self.new ≡ self.old) }
+        ensures grid { self.new.grid ≡ self.old.grid }
+        ensures vcs { self.new.vcs ≡ self.old.vcs }
+    {
+        let Some(slot) = free_slot(&self.banks, q.source, Port::L) else {
+            return Err(NoChannel);
+        };
+        let copy = self.arriving(q.source, q);
+        put_into(&mut self.banks, q.source, Port::L, slot, copy);
+        Ok(())
+    }
+
+    /// Moves a copy out of a channel by a side that it owes: to the lowest free normal channel at the port by which it
+    /// enters the next router, or to the reserved one if no normal one is free and the request is the one that is
+    /// `expected` there. Refused exactly where the channel holds no copy that owes this side, no router stands there, or
+    /// no such channel is free.
+    pub fn hop(
+        &mut self,
+        r: u8,
+        port: Port,
+        slot: u8,
+        out: Port,
+        expected: Option<(u8, u32)>,
+    ) -> Result<(), NotEnabled>
+        ensures ok { OnOk result (hopped self.old.grid self.old.copies r port slot out expected ≡ Some self.new.copies) }
+        ensures err { OnErr result (hopped self.old.grid self.old.copies r port slot out expected ≡ None) }
+        ensures kept { OnErr result (self.new ≡ self.old) }
+        ensures grid { self.new.grid ≡ self.old.grid }
+        ensures vcs { self.new.vcs ≡ self.old.vcs }
+    {
+        let Some(way) = self.find_way(r, port, slot, out, expected) else {
+            return Err(NotEnabled);
+        };
+        let copy = self.arriving(way.to, way.copy.request);
+        leave(&mut self.banks, r, port, slot, left_by(out, way.copy));
+        put_into(&mut self.banks, way.to, out.opposite(), way.entry, copy);
+        Ok(())
+    }
+
+    /// Whether a channel of the router holds a copy of the request that owes the router's own tile.
+    pub fn holds_local(&self, r: u8, id: (u8, u32)) -> bool
+        ensures { result ≡ is_some (local_place self.now.copies r id) }
+    {
+        self.local_place(r, id).is_some()
+    }
+
+    /// The request that a copy owes the router's own tile, which is owed no more: the copy leaves by the local port.
+    pub fn serve_local(&mut self, r: u8, id: (u8, u32)) -> Request
+        requires { IsSome (local_place self.old.copies r id) }
+        ensures served { served self.old.copies r id ≡ Some (result, self.new.copies) }
+        ensures grid { self.new.grid ≡ self.old.grid }
+        ensures vcs { self.new.vcs ≡ self.old.vcs }
+    {
+        let Some((port, slot)) = self.local_place(r, id) else {
+            unreachable!()
+        };
+        let Some(copy) = copy_at(&self.banks, r, port, slot) else {
+            unreachable!()
+        };
+        leave(&mut self.banks, r, port, slot, left_by(Port::L, copy));
+        copy.request
+    }
+
+    /// Whether [`Routers::inject`] would take the request in.
+    pub fn can_inject(&self, q: Request) -> bool
+        requires source { q.source < tiles self.now.grid }
+        requires absent { IsAbsent self.now.copies (name_of q) }
+        ensures { result ≡ is_some (entered self.now.grid self.now.copies q) }
+    {
+        free_slot(&self.banks, q.source, Port::L).is_some()
+    }
+
+    /// Whether [`Routers::hop`] would move the copy.
+    pub fn can_hop(
+        &self,
+        r: u8,
+        port: Port,
+        slot: u8,
+        out: Port,
+        expected: Option<(u8, u32)>,
+    ) -> bool
+        ensures { result ≡ is_some (hopped self.now.grid self.now.copies r port slot out expected) }
+    {
+        self.find_way(r, port, slot, out, expected).is_some()
+    }
+}
+
+impl Routers {
+    ghost use Rattle.std.specs.Prelude.{◌≡◌, ◌<◌, IfSome, IfNone, None};
+    ghost use Rattle.mesh_gen.specs.Grid.{tiles};
+    ghost use Rattle.chip_model.specs.Copies.{arriving, hopped, local_place};
+    ghost use Rattle.router_xy.specs.RequestNetwork.{IsWay, numbered};
+
+    // A copy that comes to a router owes every port of the tree there.
+    fn arriving(&self, r: u8, q: Request) -> NetCopy
+        requires source { q.source < tiles self.now.grid }
+        requires router { r < tiles self.now.grid }
+        ensures { result ≡ arriving self.now.grid r q }
+    {
+        NetCopy {
+            request: q,
+            owed: self.mesh.tree_outs(q.source, r),
+        }
+    }
+
+    // The way of a copy out of a channel by a side, where it can go.
+    fn find_way(
+        &self,
+        r: u8,
+        port: Port,
+        slot: u8,
+        out: Port,
+        expected: Option<(u8, u32)>,
+    ) -> Option<Way>
+        ensures some { IfSome result (λ way. IsWay self.now.grid self.now.copies r port slot out expected way) }
+        ensures none { IfNone result (hopped self.now.grid self.now.copies r port slot out expected ≡ None) }
+    {
+        let Some(copy) = copy_at(&self.banks, r, port, slot) else {
+            return None;
+        };
+        if !copy.owed.has(out) {
+            return None;
+        }
+        let Some(to) = self.mesh.neighbour(r, out) else {
+            return None;
+        };
+        let is_expected = expects(expected, copy.request);
+        let Some(entry) = entry_slot(&self.banks, self.vcs, to, out.opposite(), is_expected) else {
+            return None;
+        };
+        Some(Way { copy, to, entry })
+    }
+
+    // The place of the copy of a request that owes the router's own tile.
+    fn local_place(&self, r: u8, id: (u8, u32)) -> Option<(Port, u8)>
+        ensures { numbered result ≡ local_place self.now.copies r id }
+    {
+        match self.banks.get(usize::from(r)) {
+            Some(bank) => place_owing(bank, id),
+            None => None,
+        }
+    }
+}
