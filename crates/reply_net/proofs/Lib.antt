@@ -1,0 +1,5 @@
+pub mod BankReads
+pub mod Steps
+pub mod Sound
+pub mod Empty
+pub mod Accounts

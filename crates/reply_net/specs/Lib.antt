@@ -1,0 +1,2 @@
+pub mod ReplyNetwork
+pub mod ReplyRuns

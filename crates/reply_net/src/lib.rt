@@ -1,0 +1,13 @@
+//! The reply network: messages with a line's words, each to one tile, along the row first and then along the column.
+//! A message stands in one channel at a time, and each of its hops goes to a channel of lower rank.
+#![tactic(auto)]
+
+mod banks;
+mod laws;
+mod replies;
+
+pub use laws::reply_laws;
+pub use replies::Replies;
+
+#[cfg(test)]
+mod tests;
