@@ -1,0 +1,69 @@
+-- What the calls of the table need, and what they change.
+use Rattle.std.specs.Prelude.{◌≡◌, ◌<◌, ◌⊎◌, ℕ, Bool, true, false, IsTrue, IsSome, IsNone, List, [], ◌∷◌, ◌++◌, length, Option, Some, None}
+use Rattle.mesh_gen.specs.declared.kind.Kind.{Kind}
+use Rattle.mesh_gen.specs.declared.kind.Kind.TheVariants.{GetS, GetM}
+use Rattle.chip_model.specs.declared.waiting.Waiting.{Waiting}
+use Rattle.chip_model.specs.Misses.{Demand, WriteBack, Misses, ends_in_getm}
+
+-- at most one of the two entries stands
+abbrev pub HasOneAtMost : Misses → Type 0
+HasOneAtMost misses = IsNone misses.demand ⊎ IsNone misses.back
+
+-- there is a value, and it is such a one
+abbrev pub Holds : {X : Type 0} → (X → Type 0) → Option X → Type 0
+Holds P None = ⊥
+Holds P (Some x) = P x
+
+-- a demand that was sent and is not ordered
+pub record IsOnItsWay (demand : Demand) : Type 0 where
+  pub sent : IsTrue demand.sent
+  pub unordered : IsNone demand.ordered
+
+-- such a demand, whose words have not come
+pub record LacksWords (demand : Demand) : Type 0 where
+  pub sent : IsTrue demand.sent
+  pub unordered : IsNone demand.ordered
+  pub wordless : IsNone demand.early
+
+-- an ordered demand of a load
+pub record IsOrderedRead (demand : Demand) : Type 0 where
+  pub ordered : IsSome demand.ordered
+  pub read : demand.kind ≡ GetS
+
+-- an ordered demand of a store, behind which one more tile may wait
+pub record TakesOneMore (demand : Demand) (room : ℕ) : Type 0 where
+  pub ordered : IsSome demand.ordered
+  pub write : demand.kind ≡ GetM
+  pub space : length demand.list < room
+  pub open_end : ¬ IsTrue (ends_in_getm demand.list)
+
+-- a write-back under which the node still owns the line
+abbrev pub IsLive : WriteBack → Type 0
+IsLive back = IsTrue back.live
+
+-- whether the entry was sent
+abbrev pub sent_of : Option Demand → Option WriteBack → Bool
+sent_of (Some demand) back = demand.sent
+sent_of None (Some back) = back.sent
+sent_of None None = false
+
+abbrev pub was_sent : Misses → Bool
+was_sent misses = sent_of misses.demand misses.back
+
+-- a demand that is ordered at a place; with early words; whose words serve once; and with one more tile behind it
+abbrev pub ordered_at : ℕ → Demand → Demand
+ordered_at place demand = record demand { ordered = Some place }
+
+abbrev pub with_early : List ℕ → Demand → Demand
+with_early words demand = record demand { early = Some words }
+
+abbrev pub for_once : Demand → Demand
+for_once demand = record demand { once = true }
+
+abbrev pub followed_by : Waiting → Demand → Demand
+followed_by waiting demand = record demand { list = demand.list ++ waiting ∷ [] }
+
+-- the tiles that wait behind a demand
+abbrev pub list_of : Option Demand → List Waiting
+list_of None = []
+list_of (Some demand) = demand.list

@@ -1,0 +1,178 @@
+ghost use Rattle.std.specs.Prelude.{◌≡◌, ◌≢◌, IsTrue, IsSome, option_map};
+ghost use Rattle.chip_model.specs.Misses.{no_misses, new_demand, new_back, wanted, marked_sent};
+ghost use Rattle.chip_model.specs.Snoop.{stale_back};
+ghost use Rattle.miss_table.specs.Table.{HasOneAtMost, Holds, IsOnItsWay, LacksWords, IsOrderedRead, TakesOneMore, IsLive, was_sent, ordered_at, with_early, for_once, followed_by, list_of};
+ghost use Rattle.miss_table.specs.Looks.{look_of};
+
+use crate::Look;
+use crate::back_entry::BackEntry;
+use crate::demand_entry::DemandEntry;
+use chip_model::Pending;
+use forward_list::{ForwardList, LIST_PLACES};
+use mesh_gen::{Kind, Words};
+use std::marker::Model;
+
+/// What a node waits for: nothing, a demand or a write-back. Contracts see a place for each of the two.
+#[derive(Drop)]
+pub struct MissTable {
+    demand: Option<DemandEntry>,
+    back: Option<BackEntry>,
+}
+
+impl Model for MissTable {
+    ghost use Rattle.chip_model.specs.Misses.{Misses};
+
+    ghost Value = { Misses };
+
+    ghost use Rattle.miss_table.specs.Table.{HasOneAtMost};
+
+    ghost view = { λ table. record { demand = table.demand; back = table.back } };
+
+    ghost invariant = { λ table. HasOneAtMost (record { demand = table.demand; back = table.back }) };
+}
+
+impl MissTable {
+    /// Nothing is waited for.
+    pub fn new() -> MissTable
+        ensures { result ≡ no_misses }
+    {
+        MissTable {
+            demand: None,
+            back: None,
+        }
+    }
+
+    /// A demand begins, whose request is still to be sent.
+    pub fn start_demand(&mut self, kind: Kind, line: u16, pending: Pending)
+        requires idle { self.old ≡ no_misses }
+        requires kind { kind ≢ Kind.PutM }
+        ensures { self.new ≡ record self.old { demand = Some (new_demand kind line pending) } }
+    {
+        self.demand = Some(DemandEntry::new(kind, line, pending));
+    }
+
+    /// A write-back begins, whose request is still to be sent, of a line that this node owns until another one asks to
+    /// write it.
+    pub fn start_back(&mut self, line: u16, words: Words)
+        requires { self.old ≡ no_misses }
+        ensures { self.new ≡ record self.old { back = Some (new_back line words) } }
+    {
+        self.back = Some(BackEntry::new(line, words));
+    }
+
+    /// The request that is still to be sent.
+    #[tactic(auto, unfolding(chip_model::specs::Misses::wanted))]
+    pub fn wanted(&self) -> Option<(Kind, u16)>
+        ensures { result ≡ wanted self.now }
+    {
+        match (&self.demand, &self.back) {
+            (Some(demand), _) => (!demand.sent).then_some((demand.kind, demand.line)),
+            (None, Some(back)) => (!back.sent).then_some((Kind::PutM, back.line)),
+            (None, None) => None,
+        }
+    }
+
+    /// The request that was wanted is sent.
+    #[tactic(auto, unfolding(chip_model::specs::Misses::marked_sent))]
+    pub fn mark_sent(&mut self)
+        requires { IsSome (wanted self.old) }
+        ensures { self.new ≡ marked_sent self.old }
+    {
+        if let Some(demand) = &mut self.demand {
+            demand.mark_sent();
+        } else if let Some(back) = &mut self.back {
+            back.mark_sent();
+        }
+    }
+
+    /// The demand's request is delivered here, at the place `g` of the order, and its words are not here.
+    pub fn order_at(&mut self, g: u64)
+        requires { Holds IsOnItsWay self.old.demand }
+        ensures { self.new ≡ record self.old { demand = option_map (ordered_at g) self.old.demand } }
+    {
+        if let Some(demand) = &mut self.demand {
+            demand.order_at(g);
+        }
+    }
+
+    /// The demand's words come before its request was delivered here.
+    pub fn put_early(&mut self, words: Words)
+        requires { Holds LacksWords self.old.demand }
+        ensures { self.new ≡ record self.old { demand = option_map (with_early words) self.old.demand } }
+    {
+        if let Some(demand) = &mut self.demand {
+            demand.put_early(words);
+        }
+    }
+
+    /// The words of the demand will serve its load, and are not kept: another tile is to write behind it.
+    pub fn set_once(&mut self)
+        requires { Holds IsOrderedRead self.old.demand }
+        ensures { self.new ≡ record self.old { demand = option_map for_once self.old.demand } }
+    {
+        if let Some(demand) = &mut self.demand {
+            demand.set_once();
+        }
+    }
+
+    /// A tile waits behind the demand for its words.
+    pub fn append(&mut self, tile: u8, kind: Kind)
+        requires { Holds (λ demand. TakesOneMore demand LIST_PLACES) self.old.demand }
+        ensures { self.new ≡ record self.old { demand = option_map (followed_by (record { tile = tile; kind = kind })) self.old.demand } }
+    {
+        if let Some(demand) = &mut self.demand {
+            demand.append(tile, kind);
+        }
+    }
+
+    /// Another tile took the line that was to be given back.
+    pub fn make_stale(&mut self)
+        requires { Holds IsLive self.old.back }
+        ensures { self.new ≡ record self.old { back = stale_back self.old.back } }
+    {
+        if let Some(back) = &mut self.back {
+            back.make_stale();
+        }
+    }
+
+    /// The entry ends. It answers the tiles that waited behind a demand; behind a write-back none does.
+    pub fn finish(&mut self) -> ForwardList
+        requires { IsTrue (was_sent self.old) }
+        ensures ended { self.new ≡ no_misses }
+        ensures list { result ≡ list_of self.old.demand }
+    {
+        self.back = None;
+        match self.demand.take() {
+            Some(demand) => demand.into_list(),
+            None => ForwardList::new(),
+        }
+    }
+
+    /// The entry as plain data.
+    #[tactic(auto, unfolding(crate::specs::Looks::look_of))]
+    pub fn look(&self) -> Look
+        ensures entry { result ≡ look_of self.now }
+        ensures one { HasOneAtMost self.now }
+    {
+        match (&self.demand, &self.back) {
+            (Some(demand), _) => Look::Demand {
+                kind: demand.kind,
+                line: demand.line,
+                pending: demand.pending,
+                sent: demand.sent,
+                ordered: demand.ordered,
+                early: demand.early,
+                once: demand.once,
+                list_empty: demand.list.is_empty(),
+                ends_in_getm: demand.list.ends_in_getm(),
+            },
+            (None, Some(back)) => Look::WriteBack {
+                line: back.line,
+                words: back.words,
+                live: back.live,
+                sent: back.sent,
+            },
+            (None, None) => Look::Empty,
+        }
+    }
+}
