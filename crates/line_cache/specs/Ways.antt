@@ -1,0 +1,51 @@
+-- The ways of one set.
+use Rattle.std.specs.Prelude.{◌≡◌, ℕ, ◌==◌, Bool, true, false, [], ◌∷◌, Option, Some, None}
+use Rattle.chip_model.specs.declared.victim.Victim.{Victim}
+use Rattle.chip_model.specs.declared.victim.Victim.TheVariants.{Empty, DropS, Put}
+use Rattle.chip_model.specs.Cache.{Held, Ways, is_shared, found, has_empty, emptied, freed, lowest}
+
+-- whether a way holds a line; whether it holds a shared one
+abbrev pub holds : ℕ → Option Held → Bool
+holds line None = false
+holds line (Some held) = held.line == line
+
+abbrev pub holds_shared : Option Held → Bool
+holds_shared None = false
+holds_shared (Some held) = is_shared held.state
+
+-- the line that a way holds
+abbrev pub line_held : Option Held → Option ℕ
+line_held None = None
+line_held (Some held) = Some held.line
+
+-- a line stands in one way at most
+abbrev pub Apart : Ways → Type 0
+Apart [] = Unit {0}
+Apart (None ∷ ways) = Apart ways
+Apart (Some held ∷ ways) = (found held.line ways ≡ None) × Apart ways
+
+-- no way is empty; a shared line stands in the lowest shared way, and without it a way is empty
+pub record DropsShared (ways : Ways) (line : ℕ) : Type 0 where
+  pub full : has_empty ways ≡ false
+  pub dropped : freed ways ≡ Some (emptied line ways)
+  pub room : has_empty (emptied line ways) ≡ true
+  pub held : Held
+  pub there : found line ways ≡ Some held
+  pub shared : is_shared held.state ≡ true
+
+-- no way is empty, and none is shared; a line stands in the lowest one, and without it a way is empty
+pub record PutsBack (ways : Ways) (line : ℕ) : Type 0 where
+  pub full : has_empty ways ≡ false
+  pub unshared : freed ways ≡ None
+  pub room : has_empty (emptied line ways) ≡ true
+  pub held : Held
+  pub lowest : lowest ways ≡ Some held
+  pub same : held.line ≡ line
+  pub there : found line ways ≡ Some held
+  pub owned : is_shared held.state ≡ false
+
+-- what a victim says of the ways
+abbrev pub MakesRoom : Ways → Victim → Type 0
+MakesRoom ways Empty = has_empty ways ≡ true
+MakesRoom ways (DropS line) = DropsShared ways line
+MakesRoom ways (Put line) = PutsBack ways line
