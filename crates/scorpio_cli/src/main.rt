@@ -1,6 +1,9 @@
 //! `scorpio`: from words and bytes to text and a status.
 #![tactic(auto)]
 
+ghost use Rattle.std.specs.Prelude.{◌≡◌, ◌↔◌, IsSome};
+ghost use Rattle.scorpio_cli.specs.Top.{IsStatus};
+
 mod command;
 mod ended;
 mod line;
@@ -27,7 +30,10 @@ fn run<R: Read + Drop, W: Write + Drop>(
     words: &[&str],
     reader: R,
     writer: W,
-) -> Ended {
+) -> Ended
+    ensures statuses { IsStatus result.status }
+    ensures doc_fault { IsSome result.doc_fault ↔ (result.status ≡ 2) }
+{
     let Ok(mut output) = BufWriter::with_capacity(alloc, BUFFER, writer) else {
         return Ended::of(Err(Stop::NoMemory));
     };

@@ -3,11 +3,10 @@
 use crate::ended::Ended;
 use std::io;
 
-/// The usage text.
-pub(crate) const USAGE: &str = "usage:\n  scorpio order\n  scorpio show";
+const USAGE: &str = "usage:\n  scorpio order\n  scorpio show";
 
-// The line of a status that is one of its own, without a document's fault.
-fn line_of(status: u8) -> &'static str {
+/// What is said of a status other than 0 that comes without a fault of the description.
+pub(crate) fn line_of(status: u8) -> &'static str {
     match status {
         1 => USAGE,
         4 => "scorpio: read failed",

@@ -1,4 +1,5 @@
 use super::*;
+use crate::messages::line_of;
 use crate::top::scorpio;
 use outside_io::{MemSink, MemSource};
 use std::alloc::AllocError;
@@ -59,46 +60,54 @@ fn each_command_writes_its_text_with_ample_memory(rt: HostRuntime) -> Result<(),
     Ok(())
 }
 
+// How a command ends over these bytes, where calls of these numbers fail, and what it has written.
+fn ended(
+    alloc: Global,
+    words: &[&str],
+    bytes: &[u8],
+    failing_reads: &[u32],
+    failing_writes: &[u32],
+) -> Result<(u8, MemSink), AllocError> {
+    let mut source = input(alloc, bytes, failing_reads)?;
+    let mut sink = output(alloc, failing_writes)?;
+    let status = scorpio(alloc, words, &mut source, &mut sink).status;
+    Ok((status, sink))
+}
+
 #[test]
 fn what_fails_outside_ends_the_run_by_name(rt: HostRuntime) -> Result<(), Fail> {
     let alloc = rt.alloc();
-    let mut source = input(alloc, FOUR_TILES.as_bytes(), &[])?;
-    let mut sink = output(alloc, &[2])?;
-    assert_eq!(rt;
-        scorpio(alloc, &["order"], &mut source, &mut sink).status,
-        5
-    );
+    let (status, sink) = ended(alloc, &["order"], FOUR_TILES.as_bytes(), &[], &[2])?;
+    assert_eq!(rt; status, 5);
+    assert_eq!(rt; line_of(status), "scorpio: write failed");
     assert_eq!(rt; sink.held(), b"0 3".as_slice());
 
-    let mut source = input(alloc, FOUR_TILES.as_bytes(), &[0])?;
-    let mut sink = output(alloc, &[])?;
-    assert_eq!(rt;
-        scorpio(alloc, &["order"], &mut source, &mut sink).status,
-        4
-    );
+    let (status, sink) = ended(alloc, &["order"], FOUR_TILES.as_bytes(), &[0], &[])?;
+    assert_eq!(rt; status, 4);
+    assert_eq!(rt; line_of(status), "scorpio: read failed");
     assert_eq!(rt; sink.held(), b"".as_slice());
 
-    let mut source = MemSource::new(vec![in alloc; b' '; 1_048_577]?, CHUNK, Vec::new(alloc));
-    assert_eq!(rt; scorpio(alloc, &["show"], &mut source, &mut sink).status, 7);
+    let blanks = vec![in alloc; b' '; 1_048_577]?;
+    let (status, sink) = ended(alloc, &["show"], &blanks, &[], &[])?;
+    assert_eq!(rt; status, 7);
+    assert_eq!(rt; line_of(status), "scorpio: input too long");
     assert_eq!(rt; sink.held(), b"".as_slice());
+
+    assert_eq!(rt; line_of(6), "scorpio: out of memory");
     Ok(())
 }
 
 #[test]
 fn other_words_are_no_form(rt: HostRuntime) -> Result<(), Fail> {
     let alloc = rt.alloc();
-    let mut source = input(alloc, FOUR_TILES.as_bytes(), &[])?;
-    let mut sink = output(alloc, &[])?;
-    assert_eq!(rt; scorpio(alloc, &[], &mut source, &mut sink).status, 1);
-    assert_eq!(rt;
-        scorpio(alloc, &["Order"], &mut source, &mut sink).status,
-        1
-    );
-    assert_eq!(rt;
-        scorpio(alloc, &["show", "show"], &mut source, &mut sink).status,
-        1
-    );
-    assert_eq!(rt; sink.held(), b"".as_slice());
+    let no_words: [&str; 0] = [];
+    let forms: [&[&str]; 4] = [&no_words, &["Order"], &["show", "show"], &["--help"]];
+    for words in forms {
+        let (status, sink) = ended(alloc, words, FOUR_TILES.as_bytes(), &[], &[])?;
+        assert_eq!(rt; status, 1);
+        assert_eq!(rt; sink.held(), b"".as_slice());
+    }
+    assert_eq!(rt; line_of(1), "usage:\n  scorpio order\n  scorpio show");
     Ok(())
 }
 
