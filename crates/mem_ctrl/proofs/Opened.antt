@@ -42,16 +42,22 @@ home_is : (b : Bool) (r : LineRecord) → IsSome (if b then Some r else None) �
 home_is true r some = refl
 home_is false r some = cc
 
-pub opened_homes : (chip : Chip) (tile : ℕ) (memory : List ℕ) (records : Records) → records ≡ opening_records chip tile memory → KeepsHomes chip tile records
+pub opened_homes : (chip : Chip) (tile : ℕ) (memory : List ℕ) (records : Records) → records ≡ opening_records chip tile memory
+    → KeepsHomes chip tile records
 opened_homes chip tile memory records is = λ line below.
     let first : 0 + line ≡ line = omega arith in
     let at : record_of records line ≡ record_at chip tile memory line =
-    ap (λ (rs : Records). record_of rs line) is ∙ get_upwards (record_at chip tile memory) 0 chip.lines line below ∙ ap (record_at chip tile memory) first in (
-      (λ some. eqb-true (home chip line) tile (home_is (home chip line == tile) (opening_record (words_at memory line)) (subst (λ (o : Option LineRecord). IsSome o) at some))),
+    ap (λ (rs : Records). record_of rs line) is
+    ∙ get_upwards (record_at chip tile memory) 0 chip.lines line below
+    ∙ ap (record_at chip tile memory) first
+    in
+    let r = opening_record (words_at memory line) in (
+      (λ some. eqb-true (home chip line) tile (home_is (home chip line == tile) r (subst (λ (o : Option LineRecord). IsSome o) at some))),
       (λ same. subst (λ (o : Option LineRecord). IsSome o) (sym at)
-          (subst (λ (b : Bool). IsSome (if b then Some (opening_record (words_at memory line)) else None)) (sym (eq-eqb (home chip line) tile same)) refl)),
+          (subst (λ (b : Bool). IsSome (if b then Some r else None)) (sym (eq-eqb (home chip line) tile same)) refl)),
     )
 
-pub opened_whole : (chip : Chip) (tile : ℕ) (memory : List ℕ) (k : ℕ) (records : Records) → records ≡ map (record_at chip tile memory) (upwards 0 k) → k ≡ chip.lines
+pub opened_whole : (chip : Chip) (tile : ℕ) (memory : List ℕ) (k : ℕ) (records : Records)
+    → records ≡ map (record_at chip tile memory) (upwards 0 k) → k ≡ chip.lines
     → records ≡ opening_records chip tile memory
 opened_whole chip tile memory k records is all = is ∙ ap (λ (n : ℕ). map (record_at chip tile memory) (upwards 0 n)) all

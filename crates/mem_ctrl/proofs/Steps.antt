@@ -13,10 +13,11 @@ use Rattle.chip_model.specs.Snoop.{data_to, data_to_all}
 use Rattle.chip_model.specs.declared.waiting.Waiting.{Waiting}
 use Rattle.chip_model.specs.Ownership.{owner_by, owner_after}
 use Rattle.chip_model.specs.Records.{LineRecord, Records, Answers, from_memory, behind_back, owned_by_tile, answered_by, answered_at, answered, returned, returned_at, back_arrived}
-use Rattle.mem_ctrl.specs.Owners.{record_of, owner_in}
+use Rattle.mem_ctrl.specs.Owners.{record_of, owner_in, next_owner}
 
 -- ---- the record that a call reached, in the words of what the call knows
-pub here_is : (old items : Records) (line i : ℕ) (o : Option LineRecord) → items ≡ old → i ≡ line → i < length items → o ≡ get_or items i o → record_of old line ≡ o
+pub here_is : (old items : Records) (line i : ℕ) (o : Option LineRecord) → items ≡ old → i ≡ line → i < length items
+    → o ≡ get_or items i o → record_of old line ≡ o
 here_is old items line i o same number there read =
     ap (λ (rs : Records). get_or rs line None) (sym same)
     ∙ ap (λ (n : ℕ). get_or items n None) (sym number)
@@ -26,7 +27,8 @@ pub past_is : (old : Records) (line : ℕ) → length old ≤ line → record_of
 past_is old line past = get_or_past old line None past
 
 -- a place that keeps its record
-pub same_kept : (old items : Records) (i : ℕ) (o : Option LineRecord) → items ≡ old → i < length items → o ≡ get_or items i o → set items i o ≡ old
+pub same_kept : (old items : Records) (i : ℕ) (o : Option LineRecord) → items ≡ old → i < length items → o ≡ get_or items i o
+    → set items i o ≡ old
 same_kept old items i o same there read = ap (λ (x : Option LineRecord). set items i x) read ∙ set-get_or items i o ∙ same
 
 -- ---- a request
@@ -57,21 +59,25 @@ pub unsent : (q : Request) (old : Records) (out : List Msg) → record_of old q.
 unsent q old out here = sym (append-nil out) ∙ ap (λ (a : Answers). out ++ a.sends) (sym (answered-at q old None here))
 
 -- ---- the owner after a request
-given_by : (r : LineRecord) (t : ℕ) (b : Bool) → r.owner ≡ Tile t → (if b then record r { owner = Memory } else r).owner ≡ (if b then Memory else Tile t)
+given_by : (r : LineRecord) (t : ℕ) (b : Bool) → r.owner ≡ Tile t
+    → (if b then record r { owner = Memory } else r).owner ≡ (if b then Memory else Tile t)
 given_by r t true is = refl
 given_by r t false is = is
 
-from_memory-owner : (q : Request) (r : LineRecord) (k : Kind) → r.owner ≡ Memory → (from_memory q r k).left.owner ≡ owner_by q.source k Memory
+from_memory-owner : (q : Request) (r : LineRecord) (k : Kind) → r.owner ≡ Memory
+    → (from_memory q r k).left.owner ≡ owner_by q.source k Memory
 from_memory-owner q r GetS is = is
 from_memory-owner q r GetM is = refl
 from_memory-owner q r PutM is = is
 
-behind_back-owner : (q : Request) (r : LineRecord) (k : Kind) → r.owner ≡ Memory → (behind_back q r k).left.owner ≡ owner_by q.source k Memory
+behind_back-owner : (q : Request) (r : LineRecord) (k : Kind) → r.owner ≡ Memory
+    → (behind_back q r k).left.owner ≡ owner_by q.source k Memory
 behind_back-owner q r GetS is = is
 behind_back-owner q r GetM is = refl
 behind_back-owner q r PutM is = is
 
-by_tile-owner : (q : Request) (r : LineRecord) (t : ℕ) (k : Kind) → r.owner ≡ Tile t → (owned_by_tile q r t k).left.owner ≡ owner_by q.source k (Tile t)
+by_tile-owner : (q : Request) (r : LineRecord) (t : ℕ) (k : Kind) → r.owner ≡ Tile t
+    → (owned_by_tile q r t k).left.owner ≡ owner_by q.source k (Tile t)
 by_tile-owner q r t GetS is = is
 by_tile-owner q r t GetM is = refl
 by_tile-owner q r t PutM is = given_by r t (t == q.source) is
@@ -94,52 +100,62 @@ unfolding owner_after
 after_apart line o q apart = ap (λ (b : Bool). if b then owner_by q.source q.kind o else o) (ne_eqb q.line line apart)
 
 -- a request for another line
-keeps_by : (line : ℕ) (o : Option Owner) (q : Request) → q.line ≢ line → o ≡ option_map (λ (owner : Owner). owner_after line owner q) o
+keeps_by : (line : ℕ) (o : Option Owner) (q : Request) → q.line ≢ line → o ≡ next_owner line q o
 keeps_by line None q apart = refl
 keeps_by line (Some o) q apart = ap (λ (x : Owner). Some x) (sym (after_apart line o q apart))
 
-owners_at : (q : Request) (old : Records) (r : LineRecord) (line : ℕ) → q.line < length old → record_of old q.line ≡ Some r → (q.line ≡ line) ⊎ (q.line ≢ line)
-    → owner_in (set old q.line (Some (answered_by q r r.owner).left)) line ≡ option_map (λ (owner : Owner). owner_after line owner q) (owner_in old line)
+owners_at : (q : Request) (old : Records) (r : LineRecord) (line : ℕ) → q.line < length old → record_of old q.line ≡ Some r
+    → (q.line ≡ line) ⊎ (q.line ≢ line)
+    → owner_in (set old q.line (Some (answered_by q r r.owner).left)) line ≡ next_owner line q (owner_in old line)
 owners_at q old r line there here (inl same) =
     ap (λ (n : ℕ). owner_in (set old q.line (Some (answered_by q r r.owner).left)) n) (sym same)
     ∙ ap (option_map (λ (x : LineRecord). x.owner)) (get_or-set_same old q.line (Some (answered_by q r r.owner).left) None there)
     ∙ ap (λ (x : Owner). Some x) (answered_by-owner q r r.owner refl ∙ sym (after_same line r.owner q same))
-    ∙ ap (λ (o : Option LineRecord). option_map (λ (owner : Owner). owner_after line owner q) (option_map (λ (x : LineRecord). x.owner) o)) (sym here)
-    ∙ ap (λ (n : ℕ). option_map (λ (owner : Owner). owner_after line owner q) (owner_in old n)) same
+    ∙ ap (λ (o : Option LineRecord). next_owner line q (option_map (λ (x : LineRecord). x.owner) o)) (sym here)
+    ∙ ap (λ (n : ℕ). next_owner line q (owner_in old n)) same
 owners_at q old r line there here (inr apart) =
     ap (option_map (λ (x : LineRecord). x.owner)) (get_or-set_other old q.line line (Some (answered_by q r r.owner).left) None (λ same. apart (sym same)))
     ∙ keeps_by line (owner_in old line) q apart
 
 owners_none : (q : Request) (old : Records) (line : ℕ) → record_of old q.line ≡ None → (q.line ≡ line) ⊎ (q.line ≢ line)
-    → owner_in old line ≡ option_map (λ (owner : Owner). owner_after line owner q) (owner_in old line)
+    → owner_in old line ≡ next_owner line q (owner_in old line)
 owners_none q old line here (inl same) =
     let none : record_of old line ≡ None = ap (λ (n : ℕ). record_of old n) (sym same) ∙ here in
     ap (option_map (λ (x : LineRecord). x.owner)) none
-    ∙ ap (λ (o : Option LineRecord). option_map (λ (owner : Owner). owner_after line owner q) (option_map (λ (x : LineRecord). x.owner) o)) (sym none)
+    ∙ ap (λ (o : Option LineRecord). next_owner line q (option_map (λ (x : LineRecord). x.owner) o)) (sym none)
 owners_none q old line here (inr apart) = keeps_by line (owner_in old line) q apart
 
-pub steps : (q : Request) (old now : Records) (r : LineRecord) → q.line < length old → record_of old q.line ≡ Some r → now ≡ (answered q old).records
-    → (line : ℕ) → owner_in now line ≡ option_map (λ (owner : Owner). owner_after line owner q) (owner_in old line)
+pub steps : (q : Request) (old now : Records) (r : LineRecord) → q.line < length old → record_of old q.line ≡ Some r
+    → now ≡ (answered q old).records
+    → (line : ℕ) → owner_in now line ≡ next_owner line q (owner_in old line)
 steps q old now r there here is line =
     ap (λ (rs : Records). owner_in rs line) (is ∙ ap (λ (a : Answers). a.records) (answered-at q old (Some r) here))
     ∙ owners_at q old r line there here (cases_eq q.line line)
 
 pub stays : (q : Request) (old now : Records) → record_of old q.line ≡ None → now ≡ old
-    → (line : ℕ) → owner_in now line ≡ option_map (λ (owner : Owner). owner_after line owner q) (owner_in old line)
+    → (line : ℕ) → owner_in now line ≡ next_owner line q (owner_in old line)
 stays q old now here is line = ap (λ (rs : Records). owner_in rs line) is ∙ owners_none q old line here (cases_eq q.line line)
 
 -- ---- words that come back
-pub back-at : (line : ℕ) (words : List ℕ) (old : Records) (o : Option LineRecord) → record_of old line ≡ o → back_arrived line words old ≡ returned_at line words old o
+pub back-at : (line : ℕ) (words : List ℕ) (old : Records) (o : Option LineRecord) → record_of old line ≡ o
+    → back_arrived line words old ≡ returned_at line words old o
 unfolding back_arrived
 back-at line words old o here = ap (returned_at line words old) here
 
 pub room_back : (line : ℕ) (words : List ℕ) (old : Records) (r : LineRecord) (out : List Msg) (room : ℕ) → record_of old line ≡ Some r
     → length (out ++ (back_arrived line words old).sends) ≤ room → length out + length r.waiters ≤ room
 room_back line words old r out room here fits =
-    let all : length (out ++ data_to_all line words r.waiters) ≤ room = subst (λ (a : Answers). length (out ++ a.sends) ≤ room) (back-at line words old (Some r) here) fits in
-    omega (arith, all, length-append out (data_to_all line words r.waiters), length-map r.waiters (λ (w : Waiting). data_to w.tile line words))
+    let all : length (out ++ data_to_all line words r.waiters) ≤ room =
+    subst (λ (a : Answers). length (out ++ a.sends) ≤ room) (back-at line words old (Some r) here) fits in
+    omega (
+      arith,
+      all,
+      length-append out (data_to_all line words r.waiters),
+      length-map r.waiters (λ (w : Waiting). data_to w.tile line words),
+    )
 
-pub returns_to : (line : ℕ) (words : List ℕ) (old items : Records) (i : ℕ) (r new : LineRecord) → items ≡ old → i ≡ line → record_of old line ≡ Some r
+pub returns_to : (line : ℕ) (words : List ℕ) (old items : Records) (i : ℕ) (r new : LineRecord) → items ≡ old → i ≡ line
+    → record_of old line ≡ Some r
     → new ≡ returned words r → set items i (Some new) ≡ (back_arrived line words old).records
 returns_to line words old items i r new same number here left =
     ap (λ (rs : Records). set rs i (Some new)) same
@@ -154,5 +170,6 @@ sends_back line words old r out now here is = is ∙ ap (λ (a : Answers). out +
 pub unreturned : (line : ℕ) (words : List ℕ) (old : Records) → record_of old line ≡ None → old ≡ (back_arrived line words old).records
 unreturned line words old here = ap (λ (a : Answers). a.records) (sym (back-at line words old None here))
 
-pub unsent_back : (line : ℕ) (words : List ℕ) (old : Records) (out : List Msg) → record_of old line ≡ None → out ≡ out ++ (back_arrived line words old).sends
+pub unsent_back : (line : ℕ) (words : List ℕ) (old : Records) (out : List Msg) → record_of old line ≡ None
+    → out ≡ out ++ (back_arrived line words old).sends
 unsent_back line words old out here = sym (append-nil out) ∙ ap (λ (a : Answers). out ++ a.sends) (sym (back-at line words old None here))

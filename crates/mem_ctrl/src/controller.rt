@@ -2,9 +2,8 @@ ghost use Rattle.std.specs.Prelude.{◌≡◌, ◌≢◌, ◌+◌, ◌*◌, ◌<
 ghost use Rattle.chip_model.specs.Chip.{Chip, chip_of_mesh, home};
 ghost use Rattle.chip_model.specs.Records.{LineRecord, answered, back_arrived};
 ghost use Rattle.chip_model.specs.Node.{words_at, record_at, opening_records};
-ghost use Rattle.chip_model.specs.Ownership.{owner_after};
 ghost use Rattle.mem_ctrl.specs.Waits.{TakesRequest};
-ghost use Rattle.mem_ctrl.specs.Owners.{KeepsHomes, record_of, owner_in, told_of};
+ghost use Rattle.mem_ctrl.specs.Owners.{KeepsHomes, record_of, owner_in, next_owner, told_of};
 
 use crate::record::Record;
 use chip_model::Owner;
@@ -77,7 +76,7 @@ impl Controller {
         requires waiting { (r : LineRecord) → record_of self.old q.line ≡ Some r → TakesRequest q LIST_PLACES r }
         ensures records { self.new ≡ (answered q self.old).records }
         ensures sent { out.new ≡ out.old ++ (answered q self.old).sends }
-        ensures owners { (line : ℕ) → owner_in self.new line ≡ option_map (λ owner. owner_after line owner q) (owner_in self.old line) }
+        ensures owners { (line : ℕ) → owner_in self.new line ≡ next_owner line q (owner_in self.old line) }
         ensures homes { (chip : Chip) (tile : ℕ) → KeepsHomes chip tile self.old → KeepsHomes chip tile self.new }
     {
         let line = usize::from(q.line);
