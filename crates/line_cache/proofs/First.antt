@@ -8,7 +8,8 @@ use Rattle.std.proofs.lemmas.List.{get_or_default}
 use Rattle.std.proofs.lemmas.List.Sums.{fails_before_first}
 use Rattle.std.proofs.lemmas.List.Quantifiers.{position-Some}
 use Rattle.chip_model.specs.Cache.{Held, Ways, found, has_empty, emptied, replaced, filled, placed, lowest_shared}
-use Rattle.line_cache.specs.Ways.{holds, holds_shared, line_held, Apart}
+use Rattle.chip_model.specs.NodeShape.{IsApart}
+use Rattle.line_cache.specs.Ways.{holds, holds_shared, line_held}
 
 -- where no way passes, each one fails
 fails_by : {X : Type 0} (p : X → Bool) (xs : List X) (b : Bool) (d : X) → nat_lt (position_or_len p xs) (length xs) ≡ b → (if b then Some (position_or_len p xs) else None) ≡ None
@@ -130,15 +131,15 @@ emptied-absent line [] none = refl
 emptied-absent line (None ∷ ways) none = ap (λ (rest : Ways). None ∷ rest) (emptied-absent line ways none)
 emptied-absent line (Some held ∷ ways) none = grind (arith, nat_tests, emptied-absent line ways)
 
-apart_rest : (way : Option Held) (ways : Ways) → Apart (way ∷ ways) → Apart ways
+apart_rest : (way : Option Held) (ways : Ways) → IsApart (way ∷ ways) → IsApart ways
 apart_rest None ways apart = apart
 apart_rest (Some held) ways apart = apart.1
 
-apart_absent : (line : ℕ) (way : Option Held) (ways : Ways) → holds line way ≡ true → Apart (way ∷ ways) → found line ways ≡ None
+apart_absent : (line : ℕ) (way : Option Held) (ways : Ways) → holds line way ≡ true → IsApart (way ∷ ways) → found line ways ≡ None
 apart_absent line None ways here apart = cc
 apart_absent line (Some held) ways here apart = grind (arith, nat_tests, apart.0)
 
-emptied-first : (line : ℕ) (ways : Ways) (i : ℕ) → Apart ways → i < length ways → holds line (get_or ways i None) ≡ true → ((k : ℕ) → k < i → holds line (get_or ways k None) ≡ false)
+emptied-first : (line : ℕ) (ways : Ways) (i : ℕ) → IsApart ways → i < length ways → holds line (get_or ways i None) ≡ true → ((k : ℕ) → k < i → holds line (get_or ways k None) ≡ false)
     → set ways i None ≡ emptied line ways
 emptied-first line [] i apart below at before = absurd (omega arith)
 emptied-first line (way ∷ ways) zero apart below at before =
@@ -147,7 +148,7 @@ emptied-first line (way ∷ ways) (suc i) apart below at before =
     ap (λ (rest : Ways). way ∷ rest) (emptied-first line ways i (apart_rest way ways apart) (omega arith) at (λ k lower. before (suc k) (omega arith)))
     ∙ sym (emptied_later line way ways (before 0 (omega arith)))
 
-pub emptied-held : (line : ℕ) (ways : Ways) (i : ℕ) → Apart ways → position (holds line) ways ≡ Some i → set ways i None ≡ emptied line ways
+pub emptied-held : (line : ℕ) (ways : Ways) (i : ℕ) → IsApart ways → position (holds line) ways ≡ Some i → set ways i None ≡ emptied line ways
 emptied-held line ways i apart first =
     let at = position-Some (holds line) ways i None first in
     emptied-first line ways i apart at.0 at.1 at.2

@@ -3,7 +3,7 @@ use Rattle.std.proofs.Common.{◌≡◌, ◌≢◌, ℕ, zero, suc, ◌<◌, tru
 use Rattle.std.specs.Prelude.{◌==◌, ◌||◌, is_some, if◌then◌else◌}
 use Rattle.std.proofs.lemmas.Bool.Decides.{nat_tests}
 use Rattle.chip_model.specs.Cache.{Held, Ways, found, has_empty, emptied, replaced, filled, placed}
-use Rattle.line_cache.specs.Ways.{Apart}
+use Rattle.chip_model.specs.NodeShape.{IsApart}
 
 pub found_line : (line : ℕ) (ways : Ways) (held : Held) → found line ways ≡ Some held → held.line ≡ line
 found_line line [] held is = cc
@@ -29,22 +29,22 @@ pub found-placed : (m : ℕ) (new : Held) (ways : Ways) → (is_some (found new.
 found-placed m new ways fits = grind (arith, found-filled, found-replaced)
 
 -- ---- each line once
-pub Apart-emptied : (line : ℕ) (ways : Ways) → Apart ways → Apart (emptied line ways)
+pub Apart-emptied : (line : ℕ) (ways : Ways) → IsApart ways → IsApart (emptied line ways)
 Apart-emptied line [] apart = tt
 Apart-emptied line (None ∷ ways) apart = Apart-emptied line ways apart
 Apart-emptied line (Some held ∷ ways) apart = grind (arith, nat_tests, found-emptied, Apart-emptied line ways apart.1)
 
-Apart-filled : (new : Held) (ways : Ways) → found new.line ways ≡ None → has_empty ways ≡ true → Apart ways → Apart (filled new ways)
+Apart-filled : (new : Held) (ways : Ways) → found new.line ways ≡ None → has_empty ways ≡ true → IsApart ways → IsApart (filled new ways)
 Apart-filled new [] absent room apart = tt
 Apart-filled new (None ∷ ways) absent room apart = (absent, apart)
 Apart-filled new (Some held ∷ ways) absent room apart = grind (arith, nat_tests, found-filled, Apart-filled new ways)
 
-Apart-replaced : (new : Held) (ways : Ways) → is_some (found new.line ways) ≡ true → Apart ways → Apart (replaced new ways)
+Apart-replaced : (new : Held) (ways : Ways) → is_some (found new.line ways) ≡ true → IsApart ways → IsApart (replaced new ways)
 Apart-replaced new [] there apart = tt
 Apart-replaced new (None ∷ ways) there apart = Apart-replaced new ways there apart
 Apart-replaced new (Some held ∷ ways) there apart = grind (arith, nat_tests, found-replaced, Apart-replaced new ways)
 
-pub Apart-placed : (new : Held) (ways : Ways) → (is_some (found new.line ways) || has_empty ways) ≡ true → Apart ways → Apart (placed new ways)
+pub Apart-placed : (new : Held) (ways : Ways) → (is_some (found new.line ways) || has_empty ways) ≡ true → IsApart ways → IsApart (placed new ways)
 Apart-placed new ways fits apart = grind (arith, Apart-filled, Apart-replaced)
 
 -- ---- what stays of the others
@@ -104,13 +104,13 @@ pub length-placed : (new : Held) (ways : Ways) → length (placed new ways) ≡ 
 length-placed new ways = grind (arith, length-replaced new ways, length-filled new ways)
 
 -- ---- a set whose ways are all empty
-Apart-replicate : (count : ℕ) → Apart (replicate count None)
+Apart-replicate : (count : ℕ) → IsApart (replicate count None)
 Apart-replicate zero = tt
 Apart-replicate (suc count) = Apart-replicate count
 
-pub fresh : (count : ℕ) (ways : Ways) → ways ≡ replicate count None → 0 < count → (0 < length ways) × Apart ways
+pub fresh : (count : ℕ) (ways : Ways) → ways ≡ replicate count None → 0 < count → (0 < length ways) × IsApart ways
 fresh zero ways is some = absurd (omega arith)
-fresh (suc count) ways is some = subst (λ (ws : Ways). (0 < length ws) × Apart ws) (sym is) (omega arith, Apart-replicate count)
+fresh (suc count) ways is some = subst (λ (ws : Ways). (0 < length ws) × IsApart ws) (sym is) (omega arith, Apart-replicate count)
 
 pub found-replicate : (line count : ℕ) → found line (replicate count None) ≡ None
 found-replicate line zero = refl

@@ -4,7 +4,8 @@ use Rattle.std.specs.Prelude.{option_map, if◌then◌else◌, is_some}
 use Rattle.std.proofs.lemmas.Bool.Decides.{nat_tests}
 use Rattle.chip_model.specs.declared.victim.Victim.{Victim}
 use Rattle.chip_model.specs.Cache.{Held, Ways, is_shared, found, has_empty, emptied, freed, lowest, lowest_shared, put_of}
-use Rattle.line_cache.specs.Ways.{Apart, DropsShared, MakesRoom}
+use Rattle.chip_model.specs.NodeShape.{IsApart}
+use Rattle.line_cache.specs.Ways.{DropsShared, MakesRoom}
 use Rattle.line_cache.proofs.First.{emptied-absent}
 use Rattle.line_cache.proofs.Found.{empty_where_found}
 
@@ -43,14 +44,14 @@ shared_behind held ways line owned absent is = record {
   shared = is.shared;
 }
 
-shared_at : (held : Held) (ways : Ways) (line : ℕ) (b : Bool) → is_shared held.state ≡ b → Apart (Some held ∷ ways) → (lowest_shared ways ≡ Some line → Shared ways line)
+shared_at : (held : Held) (ways : Ways) (line : ℕ) (b : Bool) → is_shared held.state ≡ b → IsApart (Some held ∷ ways) → (lowest_shared ways ≡ Some line → Shared ways line)
     → (if b then Some held.line else lowest_shared ways) ≡ Some line → Shared (Some held ∷ ways) line
 shared_at held ways line true is apart rest lowest_is =
     let same : held.line ≡ line = cc in
     subst (λ (l : ℕ). Shared (Some held ∷ ways) l) same (shared_first held ways is apart.0)
 shared_at held ways line false is apart rest lowest_is = shared_behind held ways line is apart.0 (rest lowest_is)
 
-Shared-lowest_shared : (ways : Ways) (line : ℕ) → Apart ways → lowest_shared ways ≡ Some line → Shared ways line
+Shared-lowest_shared : (ways : Ways) (line : ℕ) → IsApart ways → lowest_shared ways ≡ Some line → Shared ways line
 Shared-lowest_shared [] line apart is = cc
 Shared-lowest_shared (None ∷ ways) line apart is = shared_behind_empty ways line (Shared-lowest_shared ways line apart is)
 Shared-lowest_shared (Some held ∷ ways) line apart is = shared_at held ways line (is_shared held.state) refl apart (Shared-lowest_shared ways line apart.1) is
@@ -85,13 +86,13 @@ drops_shared ways line full is = record {
 }
 
 -- ---- the same of ways that were read as an array
-pub DropsShared-read : (now items read : Ways) (line : ℕ) → items ≡ now → read ≡ items → (0 < length items) × Apart items → has_empty read ≡ false → lowest_shared read ≡ Some line → DropsShared now line
+pub DropsShared-read : (now items read : Ways) (line : ℕ) → items ≡ now → read ≡ items → (0 < length items) × IsApart items → has_empty read ≡ false → lowest_shared read ≡ Some line → DropsShared now line
 DropsShared-read now items read line is same ok full shared =
     let full_here : has_empty items ≡ false = ap has_empty (sym same) ∙ full in
     let shared_here : lowest_shared items ≡ Some line = ap lowest_shared (sym same) ∙ shared in
     subst (λ (ways : Ways). DropsShared ways line) is (drops_shared items line full_here (Shared-lowest_shared items line ok.1 shared_here))
 
-pub MakesRoom-read : (now items read : Ways) (victim : Victim) → items ≡ now → read ≡ items → (0 < length items) × Apart items → has_empty read ≡ false → lowest_shared read ≡ None
+pub MakesRoom-read : (now items read : Ways) (victim : Victim) → items ≡ now → read ≡ items → (0 < length items) × IsApart items → has_empty read ≡ false → lowest_shared read ≡ None
     → victim ≡ put_of (lowest read) → MakesRoom now victim
 MakesRoom-read now items read victim is same ok full none put =
     let full_here : has_empty items ≡ false = ap has_empty (sym same) ∙ full in

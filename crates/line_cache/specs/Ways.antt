@@ -18,12 +18,6 @@ abbrev pub line_held : Option Held → Option ℕ
 line_held None = None
 line_held (Some held) = Some held.line
 
--- a line stands in one way at most
-abbrev pub Apart : Ways → Type 0
-Apart [] = Unit {0}
-Apart (None ∷ ways) = Apart ways
-Apart (Some held ∷ ways) = (found held.line ways ≡ None) × Apart ways
-
 -- no way is empty; a shared line stands in the lowest shared way, and without it a way is empty
 pub record DropsShared (ways : Ways) (line : ℕ) : Type 0 where
   pub full : has_empty ways ≡ false

@@ -18,13 +18,13 @@ pub(crate) struct CacheSet {
 impl Model for CacheSet {
     ghost use Rattle.std.specs.Prelude.{◌<◌, length};
     ghost use Rattle.chip_model.specs.Cache.{Ways};
-    ghost use Rattle.line_cache.specs.Ways.{Apart};
+    ghost use Rattle.chip_model.specs.NodeShape.{IsApart};
 
     ghost Value = { Ways };
 
     ghost view = { λ set. set.ways.items };
 
-    ghost invariant = { λ set. (0 < length set.ways.items) × Apart set.ways.items };
+    ghost invariant = { λ set. (0 < length set.ways.items) × IsApart set.ways.items };
 }
 
 impl CacheSet {

@@ -2,7 +2,8 @@
 ghost use Rattle.std.specs.Prelude.{◌≡◌, ◌<◌, ◌≤◌, ◌||◌, IsTrue, IfSome, length, replicate, is_some, is_none, slice_index_or, slice_set};
 ghost use Rattle.std.specs.List.{position};
 ghost use Rattle.chip_model.specs.Cache.{found, has_empty, placed, emptied, lowest_shared, lowest, put_of};
-ghost use Rattle.line_cache.specs.Ways.{Apart, holds, holds_shared, line_held};
+ghost use Rattle.chip_model.specs.NodeShape.{IsApart};
+ghost use Rattle.line_cache.specs.Ways.{holds, holds_shared, line_held};
 
 use crate::held_line::HeldLine;
 use arrayvec::ArrayVec;
@@ -87,7 +88,7 @@ pub(crate) fn place(ways: &mut Ways, held: HeldLine)
 
 // No way holds the line afterwards.
 pub(crate) fn empty(ways: &mut Ways, line: u16)
-    requires { Apart ways.old.items }
+    requires { IsApart ways.old.items }
     ensures { ways.new.items ≡ emptied line ways.old.items }
 {
     if let Some(way) = way_of(ways.as_slice(), line) {
