@@ -102,3 +102,14 @@ is_among-push list t s = list_any-append (λ u. u == s) list (t ∷ []) ∙ ap (
 pub AllByRecursion-push : (P : ℕ → Type 0) (list : List ℕ) (t : ℕ) → AllByRecursion P list → P t → AllByRecursion P (list ++ t ∷ [])
 AllByRecursion-push P [] t all last = (last, tt)
 AllByRecursion-push P (s ∷ list) t all last = (all.0, AllByRecursion-push P list t all.1 last)
+
+-- the set of a list with one more tile at its end
+pub set_of-push : (list : List ℕ) (t : ℕ) → set_of (list ++ t ∷ []) ≡ bit_or (2 ^ t) (set_of list)
+set_of-push list t = same_sets (set_of (list ++ t ∷ [])) (bit_or (2 ^ t) (set_of list))
+    (λ s. has_tile-set_of (list ++ t ∷ []) s ∙ is_among-push list t s ∙ either_way (is_among list s) (t == s) ∙ sym (has_tile-or (2 ^ t) (set_of list) s ∙ rw (has_tile-set_of list s, has_tile-one t s) refl))
+  where
+    either_way : (a b : Bool) → (a || b) ≡ (b || a)
+    either_way true true = refl
+    either_way true false = refl
+    either_way false true = refl
+    either_way false false = refl

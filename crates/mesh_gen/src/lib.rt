@@ -12,6 +12,7 @@ mod refusals;
 mod request;
 mod routes;
 mod text;
+mod tile_set;
 mod tree;
 mod words;
 
@@ -26,6 +27,7 @@ pub use refusals::{NoChannel, NoMemory, NotEnabled, NotReady};
 pub use request::Request;
 pub use routes::route_laws;
 pub use text::Text;
+pub use tile_set::{has_tile, set_of, with_tile};
 pub use tree::tree_laws;
 pub use words::Words;
 

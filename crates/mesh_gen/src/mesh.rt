@@ -63,6 +63,23 @@ impl Mesh {
         })
     }
 
+    /// An equal mesh.
+    pub fn copy(&self, alloc: Global) -> Result<Mesh, NoMemory>
+        ensures { IfOk result (λ mesh. mesh ≡ self.now) }
+    {
+        Ok(Mesh {
+            cols: self.cols,
+            rows: self.rows,
+            window: self.window,
+            vcs: self.vcs,
+            data_vcs: self.data_vcs,
+            lines: self.lines,
+            sets: self.sets,
+            ways: self.ways,
+            controllers: Items::new(Vec::from_slice(alloc, self.controllers.as_slice())?),
+        })
+    }
+
     /// How many tiles there are.
     pub fn tiles(&self) -> u8
         ensures tiles { result ≡ tiles (grid self.now) }

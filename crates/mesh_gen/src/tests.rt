@@ -114,3 +114,30 @@ fn every_tree_comes_to_each_router_once(rt: HostRuntime) -> Result<(), Fail> {
     );
     Ok(())
 }
+
+#[test]
+fn a_copy_has_all_sizes(rt: HostRuntime) -> Result<(), Fail> {
+    let alloc = rt.alloc();
+    let mut mesh = Mesh::of_size(alloc, 3, 2, 4)?;
+    mesh.vcs = 2;
+    mesh.data_vcs = 3;
+    mesh.lines = 7;
+    mesh.sets = 5;
+    mesh.ways = 2;
+    let copy = mesh.copy(alloc)?;
+    assert_eq!(rt; (copy.cols, copy.rows, copy.window), (3, 2, 4));
+    assert_eq!(rt; (copy.vcs, copy.data_vcs, copy.lines), (2, 3, 7));
+    assert_eq!(rt; (copy.sets, copy.ways), (5, 2));
+    assert_eq!(rt; copy.controllers.as_slice(), [0].as_slice());
+    Ok(())
+}
+
+#[test]
+fn a_set_has_the_tiles_of_its_list(rt: HostRuntime) -> Result<(), Fail> {
+    let set = set_of(&[3, 0, 63]);
+    assert_eq!(rt; set, 0x8000_0000_0000_0009);
+    assert_eq!(rt; has_tile(set, 3), true);
+    assert_eq!(rt; has_tile(set, 4), false);
+    assert_eq!(rt; with_tile(set, 4), 0x8000_0000_0000_0019);
+    Ok(())
+}
