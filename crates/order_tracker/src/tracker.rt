@@ -89,6 +89,8 @@ impl Tracker {
         ensures used { IfSome (next_of self.old) (λ entry. self.new.used ≡ slice_set self.old.used entry.0 (entry.1 + 1)) }
         ensures room { (self.new.tiles ≡ self.old.tiles) × (self.new.room ≡ self.old.room) }
         ensures windows { length self.new.windows ≤ length self.old.windows }
+        // A window that is used up is gone.
+        ensures sets { AllByRecursion (IsWindow self.new.tiles) self.new.windows }
         ensures pushed { self.new.number + length self.new.windows ≡ self.old.number + length self.old.windows }
         ensures follows { (windows : List ℕ) (used : ℕ) → Follows windows used self.old → Follows windows (used + 1) self.new }
     {
