@@ -3,3 +3,4 @@ pub mod Doc
 pub mod Keys
 pub mod Limits
 pub mod Rows
+pub mod Messages

@@ -1,5 +1,8 @@
+ghost use Rattle.std.specs.Prelude.{◌≡◌, Some};
+ghost use Rattle.doc_text.specs.Messages.{fault_text, kind_number};
+
 use crate::Key;
-use core_isa::AsmFault;
+use core_isa::{AsmFault, AsmKind};
 use mesh_gen::Text;
 use std::fmt;
 
@@ -35,8 +38,17 @@ pub enum DocFault {
     Asm { tile: u8, fault: AsmFault },
 }
 
+// The number by which the kind is told.
+fn number_of(kind: AsmKind) -> u8
+    ensures { result ≡ kind_number kind }
+{
+    kind as u8
+}
+
 /// What the program says of the fault, behind `document: `.
 impl fmt::Display for DocFault {
+    ghost output = { λ fault. Some (fault_text fault) };
+
     fn fmt<W: fmt::Write>(&self, f: &mut fmt::Formatter<W>) -> fmt::Result {
         match self {
             DocFault::NotToml => f.write_str("not toml"),
@@ -49,7 +61,8 @@ impl fmt::Display for DocFault {
             DocFault::Asm { tile, fault } => write!(
                 f,
                 "core {tile} line {} kind {}",
-                fault.line, fault.kind as u8
+                fault.line,
+                number_of(fault.kind)
             ),
         }
     }

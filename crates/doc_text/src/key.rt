@@ -1,5 +1,6 @@
-ghost use Rattle.std.specs.Prelude.{◌≡◌};
+ghost use Rattle.std.specs.Prelude.{◌≡◌, Some};
 ghost use Rattle.doc_text.specs.Keys.{row_of, keys_at};
+ghost use Rattle.doc_text.specs.Messages.{key_text};
 
 use crate::{Limit, Omitted, Shape};
 use std::fmt;
@@ -147,6 +148,8 @@ impl Key {
 
 /// The key behind the key of its table, as `mesh.window`.
 impl fmt::Display for Key {
+    ghost output = { λ key. Some (key_text key) };
+
     fn fmt<W: fmt::Write>(&self, f: &mut fmt::Formatter<W>) -> fmt::Result {
         match self.level() {
             Level::Top => f.write_str(self.name()),
