@@ -4,7 +4,6 @@ use Rattle.mesh_gen.specs.declared.msg.Msg.{Msg}
 use Rattle.mesh_gen.specs.declared.port.Port.{Port}
 use Rattle.mesh_gen.specs.Grid.{Grid, tiles}
 use Rattle.mesh_gen.specs.Ports.{port_number}
-use Rattle.mesh_gen.specs.PortSets.{bits_of}
 use Rattle.mesh_gen.specs.Routes.{MayStand}
 use Rattle.vc_bank.specs.Channels.{Channels, empty_channels, slots_at}
 use Rattle.vc_bank.specs.Places.{Network, at}
@@ -32,12 +31,11 @@ pub record WindowsFit (chip : Chip) (w : Windows) : Type 0 where
   pub tiles : length w.taken ≡ tile_count chip
   pub taken : (t count : ℕ) → slice_get w.taken t ≡ Some count → count ≤ length w.closed
 
--- a copy is of a request that its source made, and owes ports alone
+-- a copy is of a request that its source made
 pub record IsCopyOfMade (net : OrderedNetwork) (copy : NetCopy) : Type 0 where
   pub interface : Interface
   pub source : slice_get net.interfaces copy.request.source ≡ Some interface
   pub made : slice_get interface.made copy.request.number ≡ Some copy.request
-  pub ports : bits_of copy.owed < 32
 
 abbrev pub CopiesAreMade : OrderedNetwork → Type 0
 CopiesAreMade net = (router port slot : ℕ) (copy : NetCopy) → at net.copies router port slot ≡ Some copy → IsCopyOfMade net copy
