@@ -6,8 +6,8 @@ ghost use Rattle.order_tracker.specs.Tracker.{IsWindow};
 ghost use Rattle.chip_model.specs.Windows.{posted, ticked, closed_by_tick, window_closed, next_vector, taken_by};
 ghost use Rattle.window_core.specs.Windows.{opening, SameSizes, AreSound};
 
-use crate::tile_set::{lacks, with};
-use mesh_gen::{Mesh, NoMemory, NotEnabled, NotReady};
+use crate::tile_set::lacks;
+use mesh_gen::{Mesh, NoMemory, NotEnabled, NotReady, with_tile};
 use notify_net::Latches;
 use std::alloc::Global;
 use std::marker::Model;
@@ -105,7 +105,7 @@ impl Windows {
             return Err(NotEnabled);
         }
         self.latches.post(t);
-        self.posts = with(self.posts, t);
+        self.posts = with_tile(self.posts, t);
         Ok(())
     }
 
