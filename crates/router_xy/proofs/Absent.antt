@@ -13,7 +13,9 @@ use Rattle.chip_model.specs.Partial.{◌>>=◌}
 use Rattle.chip_model.specs.Copies.{Name, is_named, channels_of, no_copies, arriving, entered}
 use Rattle.router_xy.specs.RequestNetwork.{RequestNetwork, IsAbsent}
 use Rattle.router_xy.proofs.Steps.{lowest_is_free}
-use Rattle.router_xy.proofs.Sound.{every-put, free_place, some_is, nothing_stands}
+use Rattle.router_xy.proofs.CopyWays.{some_is}
+use Rattle.router_xy.proofs.OwedCounts.{free_place}
+use Rattle.router_xy.proofs.Sound.{every-put, nothing_stands}
 
 pub absent_opened : (net : RequestNetwork) (g : Grid) (vcs : ℕ) (name : Name) → net ≡ record { grid = g; vcs = vcs; copies = no_copies g vcs } → IsAbsent net.copies name
 absent_opened net g vcs name is = subst (λ (net : RequestNetwork). IsAbsent net.copies name) (sym is) (λ r p slot copy stands. absurd (nothing_stands g vcs r p slot copy stands))

@@ -1,76 +1,38 @@
 -- What stands in the channels after a copy was put into one, or left it.
-use Rattle.std.proofs.Common.{◌≡◌, ℕ, zero, suc, ◌+◌, ◌<◌, ◌≤◌, Bool, true, false, sym, ◌∙◌, ap, subst, arith, ⊎_elim, Option, Some, None, [], ◌∷◌, length, length-set, get_or}
+use Rattle.std.proofs.Common.{◌≡◌, ℕ, zero, suc, ◌<◌, true, sym, ◌∙◌, ap, subst, arith, ⊎_elim, Option, Some, None, [], length, length-set, get_or}
 use Rattle.std.proofs.lemmas.Bool.{cases_eq}
-use Rattle.std.specs.Prelude.{replicate, slice_get, ◌==◌, if◌then◌else◌}
+use Rattle.std.specs.Prelude.{replicate, slice_get}
 use Rattle.std.proofs.lemmas.List.{length-replicate}
 use Rattle.std.proofs.lemmas.Option.{slice_get_within, slice_get-get_or, get_or_from_slice_get}
 use Rattle.mesh_gen.specs.declared.request.Request.{Request}
 use Rattle.mesh_gen.specs.declared.port.Port.{Port}
 use Rattle.mesh_gen.specs.Grid.{Grid, tiles}
 use Rattle.mesh_gen.specs.Limits.{IsFrom}
-use Rattle.mesh_gen.specs.Ports.{port_number, opposite, without_port}
-use Rattle.mesh_gen.specs.PortSets.{bits_of, ports_of}
+use Rattle.mesh_gen.specs.Ports.{port_number, opposite}
 use Rattle.mesh_gen.specs.Routes.{HasTiles}
 use Rattle.mesh_gen.proofs.Beside.{neighbour_inside}
 use Rattle.vc_bank.specs.Channels.{Channels, slots_at, with_packet, IsFree, empty_channels, normal_slots}
 use Rattle.vc_bank.specs.Places.{Network, slots, at, put, HasPlace}
-use Rattle.vc_bank.proofs.SlotWrites.{free_within}
 use Rattle.vc_bank.proofs.PlaceLaws.{bank-put_same, bank-put_other, at-put, place_of, at-empty, length-slots-put}
 use Rattle.chip_model.specs.declared.net_copy.NetCopy.{NetCopy}
-use Rattle.chip_model.specs.Copies.{Name, channels_of, no_copies, arriving, left_by}
+use Rattle.chip_model.specs.Copies.{Name, channels_of, no_copies}
+use Rattle.chip_model.specs.CopiesOwed.{StandsOnTree}
 use Rattle.chip_model.specs.NetworkShape.{HasChannels}
 use Rattle.router_xy.specs.declared.way.Way.{Way}
 use Rattle.router_xy.specs.RequestNetwork.{IsWay, IsSound}
 use Rattle.router_xy.proofs.Steps.{entry_is_free, hops_away}
+use Rattle.router_xy.proofs.CopyWays.{some_is, stands_left, stands_arriving}
+use Rattle.router_xy.proofs.OwedCounts.{Leaves, Arrives, free_place, OwesOnce, MayCome, owing-absent, once-leave, once-arrive}
 
 abbrev pub sound : Grid → ℕ → Network NetCopy → Type 0
 sound g vcs net = IsSound (record { grid = g; vcs = vcs; copies = net })
-
--- ---- places
-pub free_place : (net : Network NetCopy) (r p slot : ℕ) → IsFree (channels_of net r) p slot → HasPlace net r p slot
-unfolding slots
-free_place net r p slot free = free_within (channels_of net r) p slot free
-
-router_there : (net : Network NetCopy) (r p slot : ℕ) → HasPlace net r p slot → r < length net
-unfolding slots
-router_there [] r p slot place = absurd (nothing p slot place)
-  where
-    nothing : (p slot : ℕ) → slot < length (slots_at {P = NetCopy} [] p) → ⊥
-    nothing p slot place = omega arith
-router_there (bank ∷ net) zero p slot place = omega arith
-router_there (bank ∷ net) (suc r) p slot place = let below = router_there net r p slot place in omega arith
-
--- a router with a copy is one of the mesh
-pub router_inside : (g : Grid) (vcs : ℕ) (net : Network NetCopy) (r p slot : ℕ) (copy : NetCopy) → sound g vcs net → at net r p slot ≡ Some copy → r < tiles g
-router_inside g vcs net r p slot copy is stands =
-    let within = router_there net r p slot (place_of net r p slot copy stands) in
-    let routers = is.channels.routers in
-    omega arith
 
 -- ---- the channels of a router
 bank_there : (g : Grid) (vcs : ℕ) (net : Network NetCopy) (r : ℕ) → sound g vcs net → r < tiles g → slice_get net r ≡ Some (channels_of net r)
 bank_there g vcs net r is inside = let routers = is.channels.routers in slice_get-get_or net r [] (omega arith)
 
-pub five_ports : (g : Grid) (vcs : ℕ) (net : Network NetCopy) (r : ℕ) → sound g vcs net → r < tiles g → length (channels_of net r) ≡ 5
-five_ports g vcs net r is inside = is.channels.ports r (channels_of net r) (bank_there g vcs net r is inside)
-
 pub normal_there : (g : Grid) (vcs : ℕ) (net : Network NetCopy) (r : ℕ) → sound g vcs net → r < tiles g → normal_slots (channels_of net r) ≡ vcs
 normal_there g vcs net r is inside = is.channels.slots r 0 (channels_of net r) (bank_there g vcs net r is inside) ∙ length-replicate vcs None
-
-length_empty : (vcs port : ℕ) → length (slots_at (empty_channels {P = NetCopy} vcs true) port) ≤ vcs + 1
-length_empty vcs zero = let one = length-replicate {A = Option NetCopy} vcs None in omega arith
-length_empty vcs (suc zero) = let one = length-replicate {A = Option NetCopy} (vcs + 1) None in omega arith
-length_empty vcs (suc (suc zero)) = let one = length-replicate {A = Option NetCopy} (vcs + 1) None in omega arith
-length_empty vcs (suc (suc (suc zero))) = let one = length-replicate {A = Option NetCopy} (vcs + 1) None in omega arith
-length_empty vcs (suc (suc (suc (suc zero)))) = let one = length-replicate {A = Option NetCopy} (vcs + 1) None in omega arith
-length_empty vcs (suc (suc (suc (suc (suc port))))) = omega arith
-
-pub few_slots : (g : Grid) (vcs : ℕ) (net : Network NetCopy) (r : ℕ) → sound g vcs net → r < tiles g → (port : ℕ) → length (slots_at (channels_of net r) port) ≤ 9
-few_slots g vcs net r is inside port =
-    let same = is.channels.slots r port (channels_of net r) (bank_there g vcs net r is inside) in
-    let few = length_empty vcs port in
-    let limit = is.vcs_limit.high in
-    omega arith
 
 -- ---- a write keeps the shape
 length-put : (net : Network NetCopy) (r p slot : ℕ) (packet : Option NetCopy) → length (put net r p slot packet) ≡ length net
@@ -113,38 +75,30 @@ every-put holds net r p slot packet all place own n q i copy stands = ⊎_elim
     (λ before. all n q i copy before)
     (at-put net r p slot packet n q i copy place stands)
 
-pub some_is : (a b : NetCopy) → ◌≡◌ {A = Option NetCopy} (Some a) (Some b) → a ≡ b
-some_is a b same = cc
-
--- what is left of a copy is of the same request
-pub left_request : (out : Port) (copy left : NetCopy) → left_by out copy ≡ Some left → left.request ≡ copy.request
-left_request out copy left is = by (without_port (bits_of copy.owed) out) (without_port (bits_of copy.owed) out == 0) is
-  where
-    by : (owed : ℕ) (none : Bool) → (if none then None else Some (record { request = copy.request; owed = ports_of owed })) ≡ Some left → left.request ≡ copy.request
-    by owed true is = cc
-    by owed false is = sym (ap (λ (c : NetCopy). c.request) (some_is (record { request = copy.request; owed = ports_of owed }) left is))
-
 -- ---- the routers stay sound
-pub sound-put : (g : Grid) (vcs : ℕ) (net new : Network NetCopy) (r p slot : ℕ) (packet : Option NetCopy) → sound g vcs net → HasPlace net r p slot → ((copy : NetCopy) → packet ≡ Some copy → copy.request.source < tiles g)
-    → new ≡ put net r p slot packet → sound g vcs new
-sound-put g vcs net new r p slot packet is place own made = subst (λ (net : Network NetCopy). sound g vcs net) (sym made) (record {
+sound-put : (g : Grid) (vcs : ℕ) (net new : Network NetCopy) (r p slot : ℕ) (packet : Option NetCopy) → sound g vcs net → HasPlace net r p slot → ((copy : NetCopy) → packet ≡ Some copy → StandsOnTree g r copy) → OwesOnce g new → new ≡ put net r p slot packet
+    → sound g vcs new
+sound-put g vcs net new r p slot packet is place own once made = record {
   some = is.some;
   vcs_limit = is.vcs_limit;
-  channels = channels-put g vcs net r p slot packet is.channels place;
-  sources = every-put (λ router copy. copy.request.source < tiles g) net r p slot packet is.sources place own;
-})
+  channels = subst (λ (net : Network NetCopy). HasChannels g vcs true net) (sym made) (channels-put g vcs net r p slot packet is.channels place);
+  fit = record {
+    stand = subst (λ (net : Network NetCopy). Every (StandsOnTree g) net) (sym made) (every-put (StandsOnTree g) net r p slot packet is.fit.stand place own);
+    once = once;
+  };
+}
 
-pub sound-leave : (g : Grid) (vcs : ℕ) (net new : Network NetCopy) (r p slot : ℕ) (out : Port) (copy : NetCopy) (left : Option NetCopy) → sound g vcs net → at net r p slot ≡ Some copy → left ≡ left_by out copy → new ≡ put net r p slot left → sound g vcs new
-sound-leave g vcs net new r p slot out copy left is stands left_is made =
-    sound-put g vcs net new r p slot left is (place_of net r p slot copy stands)
-    (λ rest rest_is. subst (λ (q : Request). q.source < tiles g) (sym (left_request out copy rest (sym left_is ∙ rest_is))) (is.sources r p slot copy stands))
-    made
+pub sound-leave : {g : Grid} {vcs : ℕ} {net new : Network NetCopy} {r p slot : ℕ} {out : Port} {copy : NetCopy} {left : Option NetCopy} → sound g vcs net → Leaves net new r p slot out copy left → sound g vcs new
+sound-leave {g} {vcs} {net} {new} {r} {p} {slot} {out} {copy} {left} is leaves =
+    let on = is.fit.stand r p slot copy leaves.stands in
+    sound-put g vcs net new r p slot left is (place_of net r p slot copy leaves.stands) (λ rest rest_is. stands_left g r out copy rest on (sym leaves.left_is ∙ rest_is)) (once-leave is.fit.once on leaves) leaves.made
 
-pub sound-arrive : (g : Grid) (vcs : ℕ) (net new : Network NetCopy) (r p slot : ℕ) (q : Request) (copy : NetCopy) → sound g vcs net → IsFree (channels_of net r) p slot → q.source < tiles g → copy ≡ arriving g r q → new ≡ put net r p slot (Some copy) → sound g vcs new
-sound-arrive g vcs net new r p slot q copy is free inside copy_is made =
-    sound-put g vcs net new r p slot (Some copy) is (free_place net r p slot free)
-    (λ other same. subst (λ (c : NetCopy). c.request.source < tiles g) (sym copy_is ∙ some_is copy other same) inside)
-    made
+pub sound-arrive : {g : Grid} {vcs : ℕ} {net new : Network NetCopy} {r p slot : ℕ} {q : Request} {copy : NetCopy} → sound g vcs net → q.source < tiles g → r < tiles g → MayCome g net r q → Arrives g net new r p slot q copy → sound g vcs new
+sound-arrive {g} {vcs} {net} {new} {r} {p} {slot} {q} {copy} is source inside may arrives =
+    sound-put g vcs net new r p slot (Some copy) is (free_place net r p slot arrives.free)
+    (λ other same. subst (λ (c : NetCopy). StandsOnTree g r c) (sym arrives.copy_is ∙ some_is copy other same) (stands_arriving g r q source inside))
+    (once-arrive may arrives)
+    arrives.made
 
 -- ---- a hop
 pub way_inside : (g : Grid) (vcs : ℕ) (net : Network NetCopy) (r : ℕ) (port : Port) (slot : ℕ) (out : Port) (expected : Option Name) (way : Way) → sound g vcs net → IsWay g net r port slot out expected way → way.to < tiles g
@@ -176,7 +130,10 @@ sound_empty g vcs some limit = record {
     ports = λ n channels there. ap length (get_replicate (tiles g) n (empty_channels vcs true) channels there);
     slots = λ n q channels there. ap (λ (bank : Channels NetCopy). length (slots_at bank q)) (get_replicate (tiles g) n (empty_channels vcs true) channels there);
   };
-  sources = λ r p slot copy stands. absurd (nothing_stands g vcs r p slot copy stands);
+  fit = record {
+    stand = λ r p slot copy stands. absurd (nothing_stands g vcs r p slot copy stands);
+    once = λ name tile. let none = owing-absent g (no_copies g vcs) name tile (λ r p slot copy stands. absurd (nothing_stands g vcs r p slot copy stands)) in omega arith;
+  };
 }
 
 -- the same of a mesh of one's own with the size of the mesh that was given

@@ -1,1 +1,2 @@
 pub mod RequestNetwork
+pub mod LocalCopies

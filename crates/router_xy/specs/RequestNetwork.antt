@@ -1,13 +1,15 @@
 -- The request routers as plain data, and what stands in their channels.
-use Rattle.std.specs.Prelude.{◌≡◌, ◌<◌, ℕ, true, false, Option, Some, option_map}
+use Rattle.std.specs.Prelude.{◌≡◌, ℕ, true, false, Option, Some, option_map}
 use Rattle.mesh_gen.specs.declared.port.Port.{Port}
-use Rattle.mesh_gen.specs.Grid.{Grid, tiles, neighbour}
+use Rattle.mesh_gen.specs.declared.port.Port.TheVariants.{L}
+use Rattle.mesh_gen.specs.Grid.{Grid, neighbour}
 use Rattle.mesh_gen.specs.Limits.{IsFrom}
-use Rattle.mesh_gen.specs.Ports.{port_number, opposite}
+use Rattle.mesh_gen.specs.Ports.{port_number, opposite, count_if}
 use Rattle.mesh_gen.specs.Routes.{HasTiles}
-use Rattle.vc_bank.specs.Places.{Network, at}
+use Rattle.vc_bank.specs.Places.{Network, at, weigh}
 use Rattle.chip_model.specs.declared.net_copy.NetCopy.{NetCopy}
 use Rattle.chip_model.specs.Copies.{Name, is_named, owes, channels_of, entry_slot, expects}
+use Rattle.chip_model.specs.CopiesOwed.{CopiesFit, Owes}
 use Rattle.chip_model.specs.NetworkShape.{HasChannels}
 use Rattle.router_xy.specs.declared.way.Way.{Way}
 
@@ -28,17 +30,22 @@ pub record IsWay (g : Grid) (net : Network NetCopy) (r : ℕ) (port : Port) (slo
   pub next : neighbour g r out ≡ Some way.to
   pub entry : entry_slot (channels_of net way.to) (opposite out) (expects expected way.copy.request) ≡ Some way.entry
 
+-- how many copies stand at a tile that they owe
+unfoldable pub arrived : Network NetCopy → ℕ
+arrived net = weigh (λ router port slot copy. count_if (owes copy L)) net
+
 -- a place in a router's channels, by the number of its port
 abbrev pub numbered : Option (Port × ℕ) → Option (ℕ × ℕ)
 numbered place = option_map (λ place. (port_number place.0, place.1)) place
 
--- the sources of all copies are tiles
-abbrev pub HaveSources : Grid → Network NetCopy → Type 0
-HaveSources g net = (router port slot : ℕ) (copy : NetCopy) → at net router port slot ≡ Some copy → copy.request.source < tiles g
+-- two ways in which a tile is owed a request are one: they leave the same channel by the same port
+abbrev pub IsOneWay : (g : Grid) (net : Network NetCopy) (name : Name) (tile : ℕ) → Owes g net name tile → Owes g net name tile → Type 0
+IsOneWay g net name tile a b = (a.router ≡ b.router) × (a.port ≡ b.port) × (a.slot ≡ b.slot) × (a.out ≡ b.out)
 
--- there are routers, one for each tile, with their channels, and the copies in them are of tiles' requests
+-- there are routers, one for each tile, with their channels, and the copies in them stand on their trees and owe each
+-- tile at most once
 pub record IsSound (net : RequestNetwork) : Type 0 where
   pub some : HasTiles net.grid
   pub vcs_limit : IsFrom 1 8 net.vcs
   pub channels : HasChannels net.grid net.vcs true net.copies
-  pub sources : HaveSources net.grid net.copies
+  pub fit : CopiesFit net.grid net.copies

@@ -4,11 +4,13 @@
 
 mod banks;
 mod copies;
+mod laws;
 mod local;
 mod routers;
 mod way;
 
 pub use chip_model::NetCopy;
+pub use laws::owed_laws;
 pub use routers::Routers;
 
 #[cfg(test)]

@@ -1,9 +1,10 @@
-ghost use Rattle.std.specs.Prelude.{◌≡◌, ◌<◌, Some, None, true, IsSome, IfOk, IfSome, IfNone, OnOk, OnErr, is_some};
+ghost use Rattle.std.specs.Prelude.{◌≡◌, ◌<◌, ◌≤◌, ◌+◌, ◌*◌, Some, None, true, IsSome, IfOk, IfSome, IfNone, OnOk, OnErr, is_some};
 ghost use Rattle.mesh_gen.specs.Grid.{tiles};
 ghost use Rattle.mesh_gen.specs.Mesh.{grid};
 ghost use Rattle.chip_model.specs.Copies.{no_copies, name_of, entered, hopped, local_place, served};
+ghost use Rattle.chip_model.specs.CopiesOwed.{CopiesFit, OwesMore, OwesSame, OwesLess, NoneComes, ComesAlone, ReservesExpected, ReservesNothing};
 ghost use Rattle.chip_model.specs.NetworkShape.{HasChannels};
-ghost use Rattle.router_xy.specs.RequestNetwork.{IsAbsent, IsWay, numbered};
+ghost use Rattle.router_xy.specs.RequestNetwork.{IsAbsent, IsWay, numbered, arrived};
 
 use crate::banks::{copy_at, empty_banks, entry_slot, free_slot, leave, put_into};
 use crate::copies::{expects, left_by};
@@ -50,10 +51,12 @@ impl Routers {
     }
 
     /// How many tiles there are. Each has a router, whose ports have their normal channels, and those between routers a
-    /// reserved one more.
+    /// reserved one more. The copies in them stand on the trees of their sources and owe each tile at most once.
     pub fn tiles(&self) -> u8
         ensures tiles { result ≡ tiles self.now.grid }
         ensures channels { HasChannels self.now.grid self.now.vcs true self.now.copies }
+        ensures fit { CopiesFit self.now.grid self.now.copies }
+        ensures arrived { arrived self.now.copies ≤ tiles self.now.grid * (5 * self.now.vcs + 4) }
     {
         self.mesh.tiles()
     }
@@ -66,6 +69,10 @@ impl Routers {
         ensures ok { OnOk result (entered self.old.grid self.old.copies q ≡ Some self.new.copies) }
         ensures err { OnErr result (entered self.old.grid self.old.copies q ≡ None) }
         ensures kept { OnErr result (self.new ≡ self.old) }
+        ensures owed { OnOk result (OwesMore self.old.grid q self.old.copies self.new.copies) }
+        ensures requests { OnOk result (ComesAlone q self.old.copies self.new.copies) }
+        ensures reserved { ReservesNothing self.old.vcs self.old.copies self.new.copies }
+        ensures arrived { OnOk result (arrived self.new.copies ≡ arrived self.old.copies + 1) }
         ensures grid { self.new.grid ≡ self.old.grid }
         ensures vcs { self.new.vcs ≡ self.old.vcs }
     {
@@ -92,6 +99,10 @@ impl Routers {
         ensures ok { OnOk result (hopped self.old.grid self.old.copies r port slot out expected ≡ Some self.new.copies) }
         ensures err { OnErr result (hopped self.old.grid self.old.copies r port slot out expected ≡ None) }
         ensures kept { OnErr result (self.new ≡ self.old) }
+        ensures owed { OnOk result (OwesSame self.old.grid self.old.copies self.new.copies) }
+        ensures requests { NoneComes self.old.copies self.new.copies }
+        ensures reserved { ReservesExpected self.old.grid self.old.vcs r out expected self.old.copies self.new.copies }
+        ensures arrived { OnOk result (arrived self.new.copies ≡ arrived self.old.copies + 1) }
         ensures grid { self.new.grid ≡ self.old.grid }
         ensures vcs { self.new.vcs ≡ self.old.vcs }
     {
@@ -115,6 +126,11 @@ impl Routers {
     pub fn serve_local(&mut self, r: u8, id: (u8, u32)) -> Request
         requires { IsSome (local_place self.old.copies r id) }
         ensures served { served self.old.copies r id ≡ Some (result, self.new.copies) }
+        ensures name { name_of result ≡ id }
+        ensures owed { OwesLess self.old.grid r result self.old.copies self.new.copies }
+        ensures requests { NoneComes self.old.copies self.new.copies }
+        ensures reserved { ReservesNothing self.old.vcs self.old.copies self.new.copies }
+        ensures arrived { arrived self.new.copies + 1 ≡ arrived self.old.copies }
         ensures grid { self.new.grid ≡ self.old.grid }
         ensures vcs { self.new.vcs ≡ self.old.vcs }
     {

@@ -1,0 +1,35 @@
+ghost use Rattle.std.specs.Prelude.{◌≡◌, ◌≢◌, ◌↔◌, ◌<◌, ◌≤◌, ◌+◌, ◌*◌, ℕ, List, length, true, is_some};
+ghost use Rattle.std.specs.List.{All, AllPairs};
+ghost use Rattle.mesh_gen.specs.Grid.{Grid, tiles};
+ghost use Rattle.vc_bank.specs.Places.{Network};
+ghost use Rattle.chip_model.specs.Copies.{Name, local_place};
+ghost use Rattle.chip_model.specs.CopiesOwed.{CopiesFit, Owes, owing, NoneAhead};
+ghost use Rattle.chip_model.specs.NetworkShape.{HasChannels};
+ghost use Rattle.router_xy.specs.LocalCopies.{HasLocalCopy};
+ghost use Rattle.router_xy.specs.RequestNetwork.{IsOneWay};
+
+use chip_model::NetCopy;
+use mesh_gen::tree_laws;
+
+/// The laws of what the copies in the routers owe, over every grid. At run time it does nothing.
+pub fn owed_laws()
+    // A tile is owed a request exactly where the count says so, and then by one port of one copy.
+    ensures owed { (g : Grid) (net : Network NetCopy) (name : Name) (tile : ℕ) → CopiesFit g net → tile < tiles g
+        → Owes g net name tile ↔ (owing g net name tile ≡ 1) }
+    ensures one_way { (g : Grid) (net : Network NetCopy) (name : Name) (tile : ℕ) → CopiesFit g net
+        → (a b : Owes g net name tile) → IsOneWay g net name tile a b }
+
+    // No copy stands where another of its request still owes the way.
+    ensures ahead { (g : Grid) (net : Network NetCopy) → CopiesFit g net → NoneAhead g net }
+
+    // A tile is owed at most as many requests as there are channels.
+    ensures room { (g : Grid) (vcs : ℕ) (net : Network NetCopy) (tile : ℕ) (names : List Name) → HasChannels g vcs true net
+        → AllPairs (λ a b. a ≢ b) names → All (λ name. 0 < owing g net name tile) names
+        → length names ≤ tiles g * (5 * vcs + 4) }
+
+    // A request can be served at a router exactly where a copy of it there owes the router's own tile.
+    ensures local { (net : Network NetCopy) (r : ℕ) (name : Name)
+        → (is_some (local_place net r name) ≡ true) ↔ HasLocalCopy net r name }
+{
+    tree_laws();
+}
