@@ -1,0 +1,12 @@
+//! The ordered network: requests spread over the mesh in any order, a second network gives every interface the same
+//! vectors, and each interface delivers a front part of the one order that follows from them.
+#![tactic(auto)]
+
+mod ordered_net;
+mod requests;
+mod trackers;
+
+pub use ordered_net::OrderedNet;
+
+#[cfg(test)]
+mod tests;
