@@ -1,0 +1,230 @@
+-- The rows of the snoop table, by what the code tells of a node and a line.
+use Rattle.std.proofs.Common.{◌≡◌, ◌⊎◌, ℕ, Bool, true, false, refl, sym, ◌∙◌, ap, subst, arith, Option, Some, None, List}
+use Rattle.std.specs.Prelude.{◌<◌, is_some, IsTrue, length, option_map}
+use Rattle.std.proofs.lemmas.Bool.Decides.{nat_tests}
+use Rattle.mesh_gen.specs.declared.kind.Kind.{Kind}
+use Rattle.mesh_gen.specs.declared.kind.Kind.TheVariants.{GetS, GetM, PutM}
+use Rattle.mesh_gen.specs.declared.request.Request.{Request}
+use Rattle.chip_model.specs.declared.line_state.State.{State}
+use Rattle.chip_model.specs.declared.pending.Pending.{Pending}
+use Rattle.chip_model.specs.Chip.{Chip}
+use Rattle.chip_model.specs.Cache.{Cache, is_shared, lookup}
+use Rattle.chip_model.specs.Misses.{Demand, WriteBack, Misses, is_getm, ends_in_getm}
+use Rattle.chip_model.specs.Snoop.{CacheSide, Outcome, Holding as ModelHolding, OwnedCopy as HasOwnedCopy, LiveBack as HasLiveBack, OpenWrite as HasOpenWrite, OpenRead as HasOpenRead, SharedCopy as HasSharedCopy, Nothing as HasNothing, holding_demand, holding_unowned, live_for, ordered_for, holding, snooped_with}
+use Rattle.chip_model.specs.NodeShape.{SideFits}
+use Rattle.line_cache.specs.Sets.{HasSets, Fits, copy_of}
+use Rattle.miss_table.specs.declared.look.Look.TheVariants.{Empty, Demand as DemandLook, WriteBack as BackLook}
+use Rattle.miss_table.specs.Table.{HasOneAtMost, Holds, IsLive, IsOrderedRead, TakesOneMore}
+use Rattle.miss_table.specs.Looks.{look_of}
+use Rattle.snoop_core.specs.declared.snoop.Holding.{Holding}
+use Rattle.snoop_core.specs.declared.snoop.Holding.TheVariants.{OwnedCopy, LiveBack, OpenWrite, OpenRead, SharedCopy, Nothing}
+use Rattle.snoop_core.specs.ChipSides.{ChipSide, left_by, met_by}
+use Rattle.snoop_core.specs.Holdings.{told}
+use Rattle.snoop_core.proofs.CacheMaps.{fits_held}
+use Rattle.snoop_core.proofs.HoldingCases.{holding_forms, IsLiveBack, live_is, holding_open_write, holding_open_read}
+use Rattle.snoop_core.proofs.OwnRequests.{is_gets}
+use Rattle.snoop_core.proofs.Completing.{left}
+use Rattle.snoop_core.proofs.Seen.{sees_demand, sees_back, sees_nothing, alone}
+
+-- ---- by the write-back or the demand that stands
+pub live_here : (misses : Misses) (line own : ℕ) (words : List ℕ) (live sent shared : Bool) → look_of misses ≡ BackLook own words live sent → live ≡ true → own ≡ line
+    → LiveBack words ≡ told (holding_unowned shared (live_for line misses.back) (ordered_for line misses.demand))
+live_here misses line own words live sent shared is alive here =
+    let seen = sees_back misses own words live sent is in
+    let stands = seen.stands in
+    let back_words : LiveBack words ≡ LiveBack seen.back.words = ap LiveBack (sym seen.words_is) in
+    let back_line : seen.back.line ≡ line = seen.line_is ∙ here in
+    let back_live : seen.back.live ≡ true = seen.live_is ∙ alive in
+    let some : live_for line (Some seen.back) ≡ Some seen.back = grind (arith, nat_tests, back_line, back_live) in
+    rw (stands, some) back_words
+
+pub no_demand : (misses : Misses) (line own : ℕ) (words : List ℕ) (live sent shared : Bool) → look_of misses ≡ BackLook own words live sent → ((live ≡ true) × (own ≡ line → ⊥)) ⊎ (live ≡ false)
+    → holding_unowned shared None None ≡ holding_unowned shared (live_for line misses.back) (ordered_for line misses.demand)
+no_demand misses line own words live sent shared is apart =
+    let seen = sees_back misses own words live sent is in
+    let stands = seen.stands in
+    let alone = seen.alone in
+    let back_line = seen.line_is in
+    let back_live = seen.live_is in
+    let none : live_for line (Some seen.back) ≡ None = grind (arith, nat_tests, back_line, back_live) in
+    rw (alone, stands, none) refl
+
+pub demand_here : (misses : Misses) (line own : ℕ) (kind : Kind) (pending : Pending) (sent : Bool) (early : Option (List ℕ)) (once empty ends shared : Bool) (ordered : Option ℕ) (answer : Holding)
+    → HasOneAtMost misses → look_of misses ≡ DemandLook kind own pending sent ordered early once empty ends → is_some ordered ≡ true → own ≡ line
+    → ((demand : Demand) → demand.kind ≡ kind → ends_in_getm demand.list ≡ ends → answer ≡ told (holding_demand demand))
+    → answer ≡ told (holding_unowned shared (live_for line misses.back) (ordered_for line misses.demand))
+demand_here misses line own kind pending sent early once empty ends shared ordered answer one is placed here tells =
+    let seen = sees_demand misses kind own pending sent ordered early once empty ends is in
+    let stands = seen.stands in
+    let no_back = alone misses seen.demand one seen.stands in
+    let demand_line : seen.demand.line ≡ line = seen.line_is ∙ here in
+    let demand_ordered : is_some seen.demand.ordered ≡ true = ap is_some seen.ordered_is ∙ placed in
+    let told_of : answer ≡ told (holding_demand seen.demand) = tells seen.demand seen.kind_is seen.ends_is in
+    let ordered_is : ordered_for line (Some seen.demand) ≡ Some seen.demand = grind (arith, nat_tests, demand_line, demand_ordered) in
+    rw (no_back, stands, ordered_is) told_of
+
+pub no_back : (misses : Misses) (line own : ℕ) (kind : Kind) (pending : Pending) (sent : Bool) (early : Option (List ℕ)) (once empty ends shared : Bool) (ordered : Option ℕ)
+    → HasOneAtMost misses → look_of misses ≡ DemandLook kind own pending sent ordered early once empty ends → ((is_some ordered ≡ true) × (own ≡ line → ⊥)) ⊎ (is_some ordered ≡ false)
+    → holding_unowned shared None None ≡ holding_unowned shared (live_for line misses.back) (ordered_for line misses.demand)
+no_back misses line own kind pending sent early once empty ends shared ordered one is apart =
+    let seen = sees_demand misses kind own pending sent ordered early once empty ends is in
+    let stands = seen.stands in
+    let no_write_back = alone misses seen.demand one seen.stands in
+    let demand_line = seen.line_is in
+    let demand_ordered : is_some seen.demand.ordered ≡ is_some ordered = ap is_some seen.ordered_is in
+    let none : ordered_for line (Some seen.demand) ≡ None = grind (arith, nat_tests, demand_line, demand_ordered) in
+    rw (no_write_back, stands, none) refl
+
+pub nothing_here : (misses : Misses) (line : ℕ) (shared : Bool) → look_of misses ≡ Empty
+    → holding_unowned shared None None ≡ holding_unowned shared (live_for line misses.back) (ordered_for line misses.demand)
+nothing_here misses line shared is =
+    let seen = sees_nothing misses is in
+    let no_demand = seen.0 in
+    let no_back = seen.1 in
+    rw (no_demand, no_back) refl
+
+-- ---- by the copy
+pub holds_owned : (chip : Chip) (side : CacheSide) (line : ℕ) (copy : State × List ℕ) → lookup chip side.cache line ≡ Some (copy_of line copy) → is_shared copy.0 ≡ false
+    → OwnedCopy copy.1 ≡ told (holding chip side line)
+unfolding holding
+holds_owned chip side line copy there owned = rw (there, owned) refl
+
+pub holds_shared : (chip : Chip) (side : CacheSide) (line : ℕ) (copy : State × List ℕ) → lookup chip side.cache line ≡ Some (copy_of line copy) → is_shared copy.0 ≡ true
+    → holding_unowned true (live_for line side.misses.back) (ordered_for line side.misses.demand) ≡ holding chip side line
+unfolding holding
+holds_shared chip side line copy there shared = rw (there, shared) refl
+
+pub holds_none : (chip : Chip) (side : CacheSide) (line : ℕ) → lookup chip side.cache line ≡ None
+    → holding_unowned false (live_for line side.misses.back) (ordered_for line side.misses.demand) ≡ holding chip side line
+unfolding holding
+holds_none chip side line absent = rw absent refl
+
+-- ---- what is told stands
+pub told_owned : (h : ModelHolding) (words : List ℕ) → told h ≡ OwnedCopy words → h ≡ HasOwnedCopy words
+told_owned (HasOwnedCopy w) words is = cc
+told_owned (HasLiveBack w) words is = cc
+told_owned (HasOpenWrite demand) words is = cc
+told_owned (HasOpenRead demand) words is = cc
+told_owned HasSharedCopy words is = cc
+told_owned HasNothing words is = cc
+
+pub told_live : (h : ModelHolding) (words : List ℕ) → told h ≡ LiveBack words → h ≡ HasLiveBack words
+told_live (HasOwnedCopy w) words is = cc
+told_live (HasLiveBack w) words is = cc
+told_live (HasOpenWrite demand) words is = cc
+told_live (HasOpenRead demand) words is = cc
+told_live HasSharedCopy words is = cc
+told_live HasNothing words is = cc
+
+pub told_write : (h : ModelHolding) → told h ≡ OpenWrite → (demand : Demand) × (h ≡ HasOpenWrite demand)
+told_write (HasOwnedCopy w) is = cc
+told_write (HasLiveBack w) is = cc
+told_write (HasOpenWrite demand) is = (demand, refl)
+told_write (HasOpenRead demand) is = cc
+told_write HasSharedCopy is = cc
+told_write HasNothing is = cc
+
+pub told_read : (h : ModelHolding) → told h ≡ OpenRead → (demand : Demand) × (h ≡ HasOpenRead demand)
+told_read (HasOwnedCopy w) is = cc
+told_read (HasLiveBack w) is = cc
+told_read (HasOpenWrite demand) is = cc
+told_read (HasOpenRead demand) is = (demand, refl)
+told_read HasSharedCopy is = cc
+told_read HasNothing is = cc
+
+pub told_shared : (h : ModelHolding) → told h ≡ SharedCopy → h ≡ HasSharedCopy
+told_shared (HasOwnedCopy w) is = cc
+told_shared (HasLiveBack w) is = cc
+told_shared (HasOpenWrite demand) is = cc
+told_shared (HasOpenRead demand) is = cc
+told_shared HasSharedCopy is = refl
+told_shared HasNothing is = cc
+
+pub told_nothing : (h : ModelHolding) → told h ≡ Nothing → h ≡ HasNothing
+told_nothing (HasOwnedCopy w) is = cc
+told_nothing (HasLiveBack w) is = cc
+told_nothing (HasOpenWrite demand) is = cc
+told_nothing (HasOpenRead demand) is = cc
+told_nothing HasSharedCopy is = cc
+told_nothing HasNothing is = refl
+
+-- ---- a test by its value
+pub test_of : (result test : Bool) (P : Type 0) → result ≡ test → ((result ≡ true) × P) ⊎ (result ≡ false) → ((test ≡ true) × P) ⊎ (test ≡ false)
+test_of result test P same either = subst (λ (b : Bool). ((b ≡ true) × P) ⊎ (b ≡ false)) same either
+
+-- ---- what is told is known of the cache and the misses
+pub owned_fits : (chip : Chip) (side : CacheSide) (line : ℕ) (words : List ℕ) → HasSets chip side.cache → told (holding chip side line) ≡ OwnedCopy words → Fits side.cache line
+owned_fits chip side line words sets is =
+    let there : is_some (lookup chip side.cache line) ≡ true = holding_forms chip side line (λ h. h ≡ HasOwnedCopy words → is_some (lookup chip side.cache line) ≡ true) (record {
+      owned = λ held here owned same. ap is_some here;
+      live = λ copy b lives same. cc;
+      write = λ copy back d here writes goes_on same. cc;
+      read = λ copy back d here reads same. cc;
+      ended = λ copy back d here writes ends same. cc;
+      shared = λ copy back none same. cc;
+      absent = λ copy back none same. cc;
+    }) (told_owned (holding chip side line) words is) in
+    (chip, sets, fits_held chip side.cache line there)
+
+live_stands : (chip : Chip) (side : CacheSide) (line : ℕ) (words : List ℕ) → holding chip side line ≡ HasLiveBack words → (back : WriteBack) × IsLiveBack line side.misses.back back
+live_stands chip side line words = holding_forms chip side line (λ h. h ≡ HasLiveBack words → (back : WriteBack) × IsLiveBack line side.misses.back back) (record {
+  owned = λ held here owned same. cc;
+  live = λ copy b lives same. (b, live_is line side.misses.back b lives);
+  write = λ copy back d here writes goes_on same. cc;
+  read = λ copy back d here reads same. cc;
+  ended = λ copy back d here writes ends same. cc;
+  shared = λ copy back none same. cc;
+  absent = λ copy back none same. cc;
+})
+
+pub holds_live : (chip : Chip) (side : CacheSide) (line : ℕ) (words : List ℕ) → told (holding chip side line) ≡ LiveBack words → Holds IsLive side.misses.back
+holds_live chip side line words is =
+    let live = live_stands chip side line words (told_live (holding chip side line) words is) in
+    subst (λ (back : Option WriteBack). Holds IsLive back) (sym live.1.stands) live.1.live
+
+asks_to_write : (kind : Kind) → is_getm kind ≡ true → kind ≡ GetM
+asks_to_write GetM is = refl
+asks_to_write GetS is = cc
+asks_to_write PutM is = cc
+
+not_true : (b : Bool) → b ≡ false → ¬ IsTrue b
+not_true b is = λ so. let both : true ≡ false = sym so ∙ is in cc
+
+pub takes_one_more : (chip : Chip) (side : CacheSide) (line : ℕ) (demand : Demand) (places : ℕ) → holding chip side line ≡ HasOpenWrite demand → length demand.list < places
+    → Holds (λ (d : Demand). TakesOneMore d places) side.misses.demand
+takes_one_more chip side line demand places is room =
+    let open_write = holding_open_write chip side line demand is in
+    subst (λ (entry : Option Demand). Holds (λ (d : Demand). TakesOneMore d places) entry) (sym open_write.stands) (record {
+      ordered = open_write.ordered;
+      write = asks_to_write demand.kind open_write.writes;
+      space = room;
+      open_end = not_true (ends_in_getm demand.list) open_write.goes_on;
+    })
+
+pub holds_read : (chip : Chip) (side : CacheSide) (line : ℕ) (demand : Demand) → SideFits chip side → holding chip side line ≡ HasOpenRead demand → Holds IsOrderedRead side.misses.demand
+holds_read chip side line demand fit is =
+    let open_read = holding_open_read chip side line demand is in
+    subst (λ (entry : Option Demand). Holds IsOrderedRead entry) (sym open_read.stands) (record {
+      ordered = open_read.ordered;
+      read = is_gets chip side.cache demand (fit.demand demand open_read.stands) open_read.reads;
+    })
+
+-- ---- what the rows leave
+pub row : (q : Request) (site : ChipSide) (h : ModelHolding) (k : Kind) → holding site.chip site.side q.line ≡ h → q.kind ≡ k → met_by q site ≡ snooped_with site.chip q site.side h k
+row q site h k is kind =
+    ap (λ (x : ModelHolding). snooped_with site.chip q site.side x q.kind) is ∙ ap (λ (x : Kind). snooped_with site.chip q site.side h x) kind
+
+-- the demand changes, and perhaps the cache
+pub demand_left : (old : ChipSide) (chip : Chip) (cache now : Cache) (misses new : Misses) (demand : Demand) (change : Demand → Demand) (outcome : Outcome)
+    → record { chip = chip; side = record { cache = cache; misses = misses } } ≡ old → old.side.misses.demand ≡ Some demand → new ≡ record misses { demand = option_map change misses.demand }
+    → outcome.side ≡ record { cache = now; misses = record old.side.misses { demand = Some (change demand) } }
+    → record { chip = chip; side = record { cache = now; misses = new } } ≡ left_by outcome old
+demand_left old chip cache now misses new demand change outcome is stands changed leaves =
+    let here : misses.demand ≡ Some demand = ap (λ (site : ChipSide). site.side.misses.demand) is ∙ stands in
+    left old chip (record { cache = cache; misses = misses }) (record { cache = now; misses = new }) outcome is
+    (ap (λ (m : Misses). record { cache = now; misses = m })
+    (changed ∙ ap (λ (d : Option Demand). record misses { demand = option_map change d }) here ∙ ap (λ (site : ChipSide). record site.side.misses { demand = Some (change demand) }) is)
+    ∙ sym leaves)
+
+pub kept_cache : (before now : Cache) (misses : Misses) → now ≡ before → ◌≡◌ {A = CacheSide} (record { cache = before; misses = misses }) (record { cache = now; misses = misses })
+kept_cache before now misses same = ap (λ (cache : Cache). record { cache = cache; misses = misses }) (sym same)

@@ -1,0 +1,52 @@
+ghost use Rattle.std.specs.Prelude.{◌≡◌, ◌*◌, ◌<◌, ◌≤◌, ◌++◌, ℕ, List, Option, Some, length, slice_get};
+ghost use Rattle.mesh_gen.specs.declared.request.Request.{Request};
+ghost use Rattle.mesh_gen.specs.declared.msg.Msg.{Msg};
+ghost use Rattle.report_text.specs.declared.access.AccessKind.{AccessKind};
+ghost use Rattle.chip_model.specs.declared.owner.Owner.{Owner};
+ghost use Rattle.chip_model.specs.Chip.{Chip};
+ghost use Rattle.chip_model.specs.Snoop.{CacheSide, snooped, data_arrived};
+ghost use Rattle.chip_model.specs.Node.{Node, Performed, opening_node, request_delivered, message_arrived, accessed, request_sent, message_sent};
+ghost use Rattle.chip_model.specs.NodeShape.{SideFits, NodeFits};
+ghost use Rattle.chip_model.specs.Ownership.{owns, is_tile, owner_after, OwnsByOrder};
+ghost use Rattle.snoop_core.specs.Requests.{OwnRequestFits, DataFits};
+
+/// The shape of a node, for every chip: it holds at the start, and every step keeps it. At run time it does nothing.
+pub fn node_laws()
+    ensures opened { (chip : Chip) (tile : ℕ) (memory : List ℕ) → NodeFits (opening_node chip tile memory) }
+    ensures delivered { (q : Request) (node : Node) → OwnRequestFits node.tile node.side q → NodeFits node
+        → NodeFits (request_delivered q node).0 }
+    ensures arrived { (msg : Msg) (node : Node) → DataFits node.side msg → NodeFits node
+        → NodeFits (message_arrived msg node).0 }
+    ensures accessed { (kind : AccessKind) (address value : ℕ) (node : Node) (performed : Performed)
+        → accessed kind address value node ≡ Some performed → address < 4 * node.chip.lines → NodeFits node
+        → NodeFits performed.0 }
+    ensures asked { (node : Node) → NodeFits node → NodeFits (request_sent node) }
+    ensures sent { (node : Node) → NodeFits node → NodeFits (message_sent node) }
+{}
+
+/// Who owns a line, for every chip: a request that is delivered changes it at the node as in the order of requests, and
+/// nothing else does. At run time it does nothing.
+pub fn ownership_laws()
+    // One request, whatever the order is.
+    ensures snooped { (chip : Chip) (tile : ℕ) (side : CacheSide) (place : ℕ) (q : Request) → SideFits chip side
+        → OwnRequestFits tile side q → (line : ℕ) (owner : Owner) → owns chip side line ≡ is_tile tile owner
+        → owns chip (snooped chip tile side place q).side line ≡ is_tile tile (owner_after line owner q) }
+    ensures kept { (chip : Chip) (side : CacheSide) (words : List ℕ) (line : ℕ) → SideFits chip side
+        → owns chip (data_arrived chip side words).side line ≡ owns chip side line }
+
+    // The law against the order: at the start, when the order grows, and at every step.
+    ensures opened { (ordered : List Request) (chip : Chip) (tile : ℕ) (memory : List ℕ)
+        → OwnsByOrder ordered (opening_node chip tile memory) }
+    ensures grown { (ordered more : List Request) (node : Node) → node.delivered ≤ length ordered
+        → OwnsByOrder ordered node → OwnsByOrder (ordered ++ more) node }
+    ensures delivered { (ordered : List Request) (q : Request) (node : Node) → slice_get ordered node.delivered ≡ Some q
+        → OwnRequestFits node.tile node.side q → SideFits node.chip node.side
+        → OwnsByOrder ordered node → OwnsByOrder ordered (request_delivered q node).0 }
+    ensures arrived { (ordered : List Request) (msg : Msg) (node : Node) → SideFits node.chip node.side
+        → OwnsByOrder ordered node → OwnsByOrder ordered (message_arrived msg node).0 }
+    ensures accessed { (ordered : List Request) (kind : AccessKind) (address value : ℕ) (node : Node) (performed : Performed)
+        → accessed kind address value node ≡ Some performed → SideFits node.chip node.side
+        → OwnsByOrder ordered node → OwnsByOrder ordered performed.0 }
+    ensures asked { (ordered : List Request) (node : Node) → OwnsByOrder ordered node → OwnsByOrder ordered (request_sent node) }
+    ensures sent { (ordered : List Request) (node : Node) → OwnsByOrder ordered node → OwnsByOrder ordered (message_sent node) }
+{}

@@ -1,0 +1,168 @@
+ghost use Rattle.std.specs.Prelude.{◌≡◌, ◌*◌, ◌<◌, ◌||◌, IfOk, IsSome, is_some, option_map};
+ghost use Rattle.chip_model.specs.Chip.{chip_of_mesh, line_of};
+ghost use Rattle.chip_model.specs.Cache.{lookup, installed};
+ghost use Rattle.chip_model.specs.Misses.{no_misses, new_demand, new_back, request_for, wanted, marked_sent};
+ghost use Rattle.chip_model.specs.Snoop.{with_cache, with_demand, with_back, line_gone};
+ghost use Rattle.line_cache.specs.Sets.{Fits, MakesRoom, copy_of};
+ghost use Rattle.miss_table.specs.Table.{HasOneAtMost};
+ghost use Rattle.miss_table.specs.Looks.{look_of};
+ghost use Rattle.snoop_core.specs.ChipSides.{opening_side};
+
+use chip_model::{Pending, State, Victim};
+use line_cache::LineCache;
+use mesh_gen::{Kind, Mesh, NoMemory, Words};
+use miss_table::{Look, MissTable};
+use report_text::AccessKind;
+use std::alloc::Global;
+use std::marker::Model;
+
+/// The cache of a tile with what it waits for. Contracts see them beside the chip of the tile.
+#[derive(Drop)]
+pub(crate) struct Snooper {
+    pub(crate) mesh: Mesh,
+    pub(crate) cache: LineCache,
+    pub(crate) misses: MissTable,
+}
+
+impl Model for Snooper {
+    ghost use Rattle.chip_model.specs.Chip.{chip_of_mesh};
+    ghost use Rattle.line_cache.specs.Sets.{HasSets};
+    ghost use Rattle.snoop_core.specs.ChipSides.{ChipSide};
+
+    ghost Value = { ChipSide };
+
+    ghost view = { λ snooper. record {
+      chip = chip_of_mesh snooper.mesh;
+      side = record { cache = snooper.cache; misses = snooper.misses };
+    } };
+
+    ghost invariant = { λ snooper. HasSets (chip_of_mesh snooper.mesh) snooper.cache };
+}
+
+// The line of an address.
+fn line_in(mesh: &Mesh, address: u32) -> u16
+    requires { address < 4 * mesh.now.lines }
+    ensures { result ≡ line_of address }
+{
+    (address / 4) as u16
+}
+
+// What an access that misses asks for.
+fn request_for(kind: AccessKind) -> Kind
+    ensures { result ≡ request_for kind }
+{
+    match kind {
+        AccessKind::Load => Kind::GetS,
+        AccessKind::Store => Kind::GetM,
+    }
+}
+
+impl Snooper {
+    // Nothing is in the cache, and nothing is waited for.
+    pub(crate) fn open(alloc: Global, mesh: &Mesh) -> Result<Snooper, NoMemory>
+        ensures { IfOk result (λ snooper. snooper ≡ opening_side (chip_of_mesh mesh.now)) }
+    {
+        Ok(Snooper {
+            mesh: mesh.copy(alloc)?,
+            cache: LineCache::open(alloc, mesh)?,
+            misses: MissTable::new(),
+        })
+    }
+
+    // The line of an address.
+    pub(crate) fn line_of(&self, address: u32) -> u16
+        requires { address < 4 * self.now.chip.lines }
+        ensures { result ≡ line_of address }
+    {
+        line_in(&self.mesh, address)
+    }
+
+    // The state and the words of a line in the cache.
+    pub(crate) fn lookup(&self, line: u16) -> Option<(State, Words)>
+        ensures copy { lookup self.now.chip self.now.side.cache line ≡ option_map (copy_of line) result }
+        ensures fits { IsSome result → Fits self.now.side.cache line }
+    {
+        self.cache.lookup(line)
+    }
+
+    // What has to leave the cache before the line can come in.
+    pub(crate) fn victim(&self, line: u16) -> Victim
+        ensures { MakesRoom self.now.chip self.now.side.cache line result }
+    {
+        self.cache.victim(line)
+    }
+
+    // What is waited for.
+    pub(crate) fn look(&self) -> Look
+        ensures entry { result ≡ look_of self.now.side.misses }
+        ensures one { HasOneAtMost self.now.side.misses }
+    {
+        self.misses.look()
+    }
+
+    // Whether something is waited for.
+    pub(crate) fn has_entry(&self) -> bool
+        ensures { result ≡ is_some self.now.side.misses.demand || is_some self.now.side.misses.back }
+    {
+        match self.look() {
+            Look::Demand { .. } | Look::WriteBack { .. } => true,
+            Look::Empty => false,
+        }
+    }
+
+    // The request that is still to be sent.
+    pub(crate) fn wanted(&self) -> Option<(Kind, u16)>
+        ensures { result ≡ wanted self.now.side.misses }
+    {
+        self.misses.wanted()
+    }
+
+    // The request that was wanted is sent.
+    pub(crate) fn mark_sent(&mut self)
+        requires { IsSome (wanted self.old.side.misses) }
+        ensures { self.new ≡ record self.old {
+          side = record self.old.side { misses = marked_sent self.old.side.misses };
+        } }
+    {
+        self.misses.mark_sent();
+    }
+
+    // The only copy of a line has these words from now on.
+    pub(crate) fn write(&mut self, line: u16, words: Words)
+        requires { Fits self.old.side.cache line }
+        ensures { self.new ≡ record self.old {
+          side = with_cache (installed self.old.chip (copy_of line (State.M, words)) self.old.side.cache) self.old.side;
+        } }
+    {
+        self.cache.install(line, State::M, words);
+    }
+
+    // A line leaves the cache.
+    pub(crate) fn drop_line(&mut self, line: u16)
+        ensures { self.new ≡ record self.old { side = line_gone self.old.chip line self.old.side } }
+    {
+        self.cache.drop_line(line);
+    }
+
+    // A demand begins.
+    pub(crate) fn start(&mut self, line: u16, pending: Pending)
+        requires { self.old.side.misses ≡ no_misses }
+        ensures { self.new ≡ record self.old {
+          side = with_demand (Some (new_demand (request_for pending.kind) line pending)) self.old.side;
+        } }
+    {
+        self.misses
+            .start_demand(request_for(pending.kind), line, pending);
+    }
+
+    // A write-back begins of a line with these words, which leaves the cache.
+    pub(crate) fn put_back(&mut self, line: u16, words: Words)
+        requires { self.old.side.misses ≡ no_misses }
+        ensures { self.new ≡ record self.old {
+          side = with_back (Some (new_back line words)) (line_gone self.old.chip line self.old.side);
+        } }
+    {
+        self.cache.drop_line(line);
+        self.misses.start_back(line, words);
+    }
+}
