@@ -1,0 +1,3 @@
+pub mod Sweeps
+pub mod Broadcasts
+pub mod Delivered

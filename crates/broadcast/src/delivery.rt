@@ -1,0 +1,43 @@
+//! The broadcast of all that a description posts.
+ghost use Rattle.std.specs.Prelude.{◌≡◌, ◌≤◌, IfOk};
+ghost use Rattle.mesh_gen.specs.Limits.{AreTiles};
+ghost use Rattle.mesh_gen.specs.TileSet.{set_of};
+ghost use Rattle.doc_text.specs.Doc.{doc_of};
+ghost use Rattle.chip_model.specs.Chip.{chip_of_mesh};
+ghost use Rattle.chip_model.specs.Delivery.{DeliversPosts};
+
+use crate::passes::settle;
+use crate::window::pass_window;
+use doc_text::Document;
+use mesh_gen::{NoMemory, set_of};
+use net_iface::OrderedNet;
+use std::alloc::Global;
+
+// The set of the tiles that post in a window.
+fn posts_of(tiles: &[u8], count: u8) -> u64
+    requires tiles { AreTiles count tiles.now }
+    requires few { count ≤ 36 }
+    ensures { result ≡ set_of tiles.now }
+{
+    set_of(tiles)
+}
+
+/// The ordered network in which the requests of a description's posts have been broadcast: window by window each tile that
+/// posts makes a request, posts it, and the window's ticks pass; then whatever can move on does, until nothing can. All
+/// memory is taken at the start.
+pub fn broadcast_posts(alloc: Global, document: &Document) -> Result<OrderedNet, NoMemory>
+    ensures chip { IfOk result (λ net. net.chip ≡ chip_of_mesh document.now.mesh) }
+    ensures delivers { IfOk result (λ net. DeliversPosts (doc_of document.now) net.network) }
+{
+    let mesh = &document.mesh;
+    let windows = document.windows();
+    let tiles = mesh.tiles();
+    let room = windows.len() as u64 * u64::from(tiles);
+    let mut net = OrderedNet::open(alloc, mesh, room)?;
+    for window in windows {
+        let set = posts_of(window.as_slice(), tiles);
+        pass_window(&mut net, set, mesh.window);
+        settle(&mut net, mesh.vcs);
+    }
+    Ok(net)
+}
