@@ -1,0 +1,3 @@
+pub mod CanonicalDoc
+pub mod CanonicalTable
+pub mod Writable
