@@ -1,3 +1,4 @@
+pub mod DeliveryLines
 pub mod Digits
 pub mod Following
 pub mod Forms

@@ -1,20 +1,28 @@
--- The commands: the words of each, and the text that each writes of a description.
-use Rattle.std.specs.Prelude.{ℕ, List, [], ◌∷◌, Option, Some, None, codes, if◌then◌else◌}
+-- The commands: the words of each, and the texts that each may write of a description.
+use Rattle.std.specs.Prelude.{◌≡◌, ℕ, List, [], ◌∷◌, Option, Some, None, codes, if◌then◌else◌}
 use Rattle.std.specs.Str.{bytes_eq}
 use Rattle.doc_text.specs.Doc.{Doc}
 use Rattle.doc_text.specs.Canonical.{canonical}
 use Rattle.scorpio_cli.specs.declared.command.Command.{Command}
-use Rattle.scorpio_cli.specs.declared.command.Command.TheVariants.{Order, Show}
+use Rattle.scorpio_cli.specs.declared.command.Command.TheVariants.{Order, Show, Deliver}
 use Rattle.scorpio_cli.specs.Line.{order_text}
+use Rattle.scorpio_cli.specs.Deliveries.{IsDelivered}
 
 abbrev pub words_of : Command → List (List ℕ)
 words_of Order = codes "order" ∷ []
 words_of Show = codes "show" ∷ []
+words_of Deliver = codes "deliver" ∷ []
 
-abbrev pub text_of : Command → Doc → List ℕ
-text_of Order doc = order_text doc
-text_of Show doc = canonical doc
+-- a text of a command for a description: the one of its order, its canonical one, or one of what its broadcast delivers
+abbrev pub IsTextOf : Command → Doc → List ℕ → Type 0
+IsTextOf Order doc text = text ≡ order_text doc
+IsTextOf Show doc text = text ≡ canonical doc
+IsTextOf Deliver doc text = IsDelivered doc text
 
 -- the command that one word is the form of
 abbrev pub named : List ℕ → Option Command
-named word = if bytes_eq word (codes "order") then Some Order else if bytes_eq word (codes "show") then Some Show else None
+named word =
+    if bytes_eq word (codes "order") then Some Order
+    else if bytes_eq word (codes "show") then Some Show
+    else if bytes_eq word (codes "deliver") then Some Deliver
+    else None

@@ -20,6 +20,14 @@ Wrote sink text (Err WriteFault) = AppendsPart sink.old sink.new text × Rose si
 Wrote sink text (Err NoMemory) = sink.new ≡ sink.old
 Wrote sink text (Err _) = ⊥
 
+-- of writing one of the texts of which this holds: all of it, or a front part after the sink failed, or nothing where
+-- memory was wanting
+abbrev pub WroteSome : (List ℕ → Type 0) → Stream → Result Unit Stop → Type 0
+WroteSome IsText sink (Ok done) = (text : List ℕ) × IsText text × Appends sink.old sink.new text
+WroteSome IsText sink (Err WriteFault) = ((text : List ℕ) × IsText text × AppendsPart sink.old sink.new text) × Rose sink.before sink.now
+WroteSome IsText sink (Err NoMemory) = sink.new ≡ sink.old
+WroteSome IsText sink (Err _) = ⊥
+
 -- of a command that reads a description and writes its text: what was written, and the cause of each refusal
 abbrev pub Ran : Command → Stream → Stream → Result Unit Stop → Type 0
 Ran command source sink (Ok done) = WritesFor command source.old sink.old sink.new

@@ -5,7 +5,7 @@ use Rattle.doc_text.specs.declared.fault.DocFault.{DocFault}
 use Rattle.doc_text.specs.Doc.{Doc}
 use Rattle.mesh_doc.specs.Reading.{reading}
 use Rattle.scorpio_cli.specs.declared.command.Command.{Command}
-use Rattle.scorpio_cli.specs.Commands.{words_of, text_of}
+use Rattle.scorpio_cli.specs.Commands.{words_of, IsTextOf}
 
 -- the words are the form of no command
 abbrev pub IsNoForm : List (List ℕ) → Type 0
@@ -20,14 +20,14 @@ pub record HasText (command : Command) (bytes text : List ℕ) : Type 0 where
   pub limited : length bytes ≤ input_limit
   pub doc : Doc
   pub accepted : reading bytes ≡ Ok doc
-  pub text_is : text ≡ text_of command doc
+  pub text_is : IsTextOf command doc text
 
 -- the bytes are within the limit, and have this first fault
 pub record HasFault (bytes : List ℕ) (fault : DocFault) : Type 0 where
   pub limited : length bytes ≤ input_limit
   pub refused : reading bytes ≡ Err fault
 
--- the whole text of the input for a command was appended, where input and output are told
+-- a whole text of the input for a command was appended, where input and output are told
 abbrev pub WritesFor : Command → Option (List ℕ) → Option (List ℕ) → Option (List ℕ) → Type 0
 WritesFor command input old new = IfSome input (λ bytes. (text : List ℕ) × HasText command bytes text × Appends old new text)
 

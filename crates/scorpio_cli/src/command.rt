@@ -9,6 +9,8 @@ pub(crate) enum Command {
     Order,
     /// Writes the description in its canonical text.
     Show,
+    /// Broadcasts the requests that the description posts, and writes what each tile delivers.
+    Deliver,
 }
 
 impl Command {
@@ -32,6 +34,8 @@ impl Command {
             Some(Command::Order)
         } else if word == "show" {
             Some(Command::Show)
+        } else if word == "deliver" {
+            Some(Command::Deliver)
         } else {
             None
         }

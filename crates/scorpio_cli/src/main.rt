@@ -5,6 +5,7 @@ ghost use Rattle.std.specs.Prelude.{◌≡◌, ◌↔◌, IsSome};
 ghost use Rattle.scorpio_cli.specs.Top.{IsStatus};
 
 mod command;
+mod deliver;
 mod ended;
 mod line;
 mod messages;
@@ -58,6 +59,8 @@ fn main(rt: HostRuntime) -> io::Result<ExitCode> {
         words.push(argument.as_str())?;
     }
     let ended = run(alloc, &words, rt.stdin(), rt.stdout());
-    messages::report(&rt, &ended)?;
+    if ended.status != 0 {
+        eprintln!(rt; "{ended}")?;
+    }
     Ok(ExitCode::from(ended.status))
 }

@@ -1,26 +1,34 @@
 //! What is said on standard error.
+ghost use Rattle.std.specs.Prelude.{◌≡◌, Some};
+ghost use Rattle.scorpio_cli.specs.Messages.{said_of, message};
 
 use crate::ended::Ended;
-use std::io;
+use std::fmt;
 
-const USAGE: &str = "usage:\n  scorpio order\n  scorpio show";
+const USAGE: &str = "usage:\n  scorpio order\n  scorpio show\n  scorpio deliver";
 
-/// What is said of a status other than 0 that comes without a fault of the description.
-pub(crate) fn line_of(status: u8) -> &'static str {
+// What is said of a status that comes without a fault of the description.
+fn said_of(status: u8) -> &'static str
+    ensures { result.now ≡ said_of status }
+{
     match status {
         1 => USAGE,
         4 => "scorpio: read failed",
         5 => "scorpio: write failed",
         6 => "scorpio: out of memory",
-        _ => "scorpio: input too long",
+        7 => "scorpio: input too long",
+        _ => "",
     }
 }
 
-/// Says how the command ended, where it did not end well.
-pub(crate) fn report(rt: &impl Eprint, ended: &Ended) -> io::Result<()> {
-    match (ended.status, &ended.doc_fault) {
-        (0, _) => Ok(()),
-        (_, Some(fault)) => eprintln!(rt; "scorpio: document: {fault}"),
-        (status, None) => rt.eprintln(line_of(status)),
+/// What the program says on standard error of how a command ended: nothing where its whole text was written.
+impl fmt::Display for Ended {
+    ghost output = { λ ended. Some (message ended) };
+
+    fn fmt<W: fmt::Write>(&self, f: &mut fmt::Formatter<W>) -> fmt::Result {
+        match &self.doc_fault {
+            Some(fault) => write!(f, "scorpio: document: {fault}"),
+            None => f.write_str(said_of(self.status)),
+        }
     }
 }

@@ -1,5 +1,4 @@
 use super::*;
-use crate::messages::line_of;
 use crate::top::scorpio;
 use outside_io::{MemSink, MemSource};
 use std::alloc::AllocError;
@@ -23,7 +22,7 @@ fn input(alloc: Global, text: &[u8], fails: &[u32]) -> Result<MemSource, AllocEr
 }
 
 fn output(alloc: Global, fails: &[u32]) -> Result<MemSink, AllocError> {
-    Ok(MemSink::new(vec![in alloc; 0; 512]?, Vec::from_slice(alloc, fails)?))
+    Ok(MemSink::new(vec![in alloc; 0; 1024]?, Vec::from_slice(alloc, fails)?))
 }
 
 #[test]
@@ -43,6 +42,21 @@ fn each_command_writes_its_text_with_ample_memory(rt: HostRuntime) -> Result<(),
         ),
         ("order", "mesh = { cols = 1, rows = 1, window = 1 }\n", "\n"),
         ("order", ONE_TILE, "\n"),
+        (
+            "deliver",
+            FOUR_TILES,
+            "tile 0: 0 3 1 3 2\ntile 1: 0 3 1 3 2\ntile 2: 0 3 1 3 2\ntile 3: 0 3 1 3 2\n",
+        ),
+        (
+            "deliver",
+            "posts = [[2],[0,1]]\n[mesh]\ncols = 3\nrows = 1\nwindow = 2\n",
+            "tile 0: 2 1 0\ntile 1: 2 1 0\ntile 2: 2 1 0\n",
+        ),
+        (
+            "deliver",
+            "mesh = { cols = 3, rows = 1, window = 2 }\n",
+            "tile 0:\ntile 1:\ntile 2:\n",
+        ),
         ("show", ONE_TILE, ONE_TILE),
         (
             "show",
@@ -60,40 +74,48 @@ fn each_command_writes_its_text_with_ample_memory(rt: HostRuntime) -> Result<(),
     Ok(())
 }
 
-// How a command ends over these bytes, where calls of these numbers fail, and what it has written.
+// How a command ends over these bytes, where calls of these numbers fail; what is said of it, and what it has written.
 fn ended(
     alloc: Global,
     words: &[&str],
     bytes: &[u8],
     failing_reads: &[u32],
     failing_writes: &[u32],
-) -> Result<(u8, MemSink), AllocError> {
+) -> Result<(u8, String, MemSink), AllocError> {
     let mut source = input(alloc, bytes, failing_reads)?;
     let mut sink = output(alloc, failing_writes)?;
-    let status = scorpio(alloc, words, &mut source, &mut sink).status;
-    Ok((status, sink))
+    let ended = scorpio(alloc, words, &mut source, &mut sink);
+    let said = format!(in alloc; "{ended}")?;
+    Ok((ended.status, said, sink))
 }
 
 #[test]
 fn what_fails_outside_ends_the_run_by_name(rt: HostRuntime) -> Result<(), Fail> {
     let alloc = rt.alloc();
-    let (status, sink) = ended(alloc, &["order"], FOUR_TILES.as_bytes(), &[], &[2])?;
+    let (status, said, sink) = ended(alloc, &["order"], FOUR_TILES.as_bytes(), &[], &[2])?;
     assert_eq!(rt; status, 5);
-    assert_eq!(rt; line_of(status), "scorpio: write failed");
+    assert_eq!(rt; said.as_str(), "scorpio: write failed");
     assert_eq!(rt; sink.held(), b"0 3".as_slice());
 
-    let (status, sink) = ended(alloc, &["order"], FOUR_TILES.as_bytes(), &[0], &[])?;
+    let (status, said, sink) = ended(alloc, &["order"], FOUR_TILES.as_bytes(), &[0], &[])?;
     assert_eq!(rt; status, 4);
-    assert_eq!(rt; line_of(status), "scorpio: read failed");
+    assert_eq!(rt; said.as_str(), "scorpio: read failed");
     assert_eq!(rt; sink.held(), b"".as_slice());
+
+    let (status, said, sink) = ended(alloc, &["deliver"], FOUR_TILES.as_bytes(), &[], &[2])?;
+    assert_eq!(rt; status, 5);
+    assert_eq!(rt; said.as_str(), "scorpio: write failed");
+    assert_eq!(rt; sink.held(), b"tile 0: 0".as_slice());
 
     let blanks = vec![in alloc; b' '; 1_048_577]?;
-    let (status, sink) = ended(alloc, &["show"], &blanks, &[], &[])?;
+    let (status, said, sink) = ended(alloc, &["show"], &blanks, &[], &[])?;
     assert_eq!(rt; status, 7);
-    assert_eq!(rt; line_of(status), "scorpio: input too long");
+    assert_eq!(rt; said.as_str(), "scorpio: input too long");
     assert_eq!(rt; sink.held(), b"".as_slice());
 
-    assert_eq!(rt; line_of(6), "scorpio: out of memory");
+    let no_memory = Ended::of(Err(Stop::NoMemory));
+    let said = format!(in alloc; "{no_memory}")?;
+    assert_eq!(rt; said.as_str(), "scorpio: out of memory");
     Ok(())
 }
 
@@ -103,31 +125,74 @@ fn other_words_are_no_form(rt: HostRuntime) -> Result<(), Fail> {
     let no_words: [&str; 0] = [];
     let forms: [&[&str]; 4] = [&no_words, &["Order"], &["show", "show"], &["--help"]];
     for words in forms {
-        let (status, sink) = ended(alloc, words, FOUR_TILES.as_bytes(), &[], &[])?;
+        let (status, said, sink) = ended(alloc, words, FOUR_TILES.as_bytes(), &[], &[])?;
         assert_eq!(rt; status, 1);
+        assert_eq!(rt;
+            said.as_str(),
+            "usage:\n  scorpio order\n  scorpio show\n  scorpio deliver"
+        );
         assert_eq!(rt; sink.held(), b"".as_slice());
     }
-    assert_eq!(rt; line_of(1), "usage:\n  scorpio order\n  scorpio show");
     Ok(())
 }
 
-// The message of a faulty description, where it has this one.
+// The lines of so many tiles, each of which has delivered what this line names.
+fn lines_of_all(alloc: Global, tiles: u8, delivered: &str) -> Result<String, AllocError> {
+    let blank = if delivered == "\n" { "" } else { " " };
+    let mut lines = String::new(alloc);
+    for t in 0..tiles {
+        let line = format!(in alloc; "tile {t}:{blank}{delivered}")?;
+        lines.push_str(&line)?;
+    }
+    Ok(lines)
+}
+
+#[test]
+fn every_tile_delivers_what_the_order_names(rt: HostRuntime) -> Result<(), Fail> {
+    let alloc = rt.alloc();
+    let cases = [
+        (
+            "posts = [[0],[0],[0]]\n[mesh]\ncols = 1\nrows = 1\nwindow = 1\n",
+            1,
+            "0 0 0\n",
+        ),
+        (
+            "posts = [[3,1],[2,0,3]]\n[mesh]\ncols = 2\nrows = 2\nwindow = 2\nvcs = 1\n",
+            4,
+            "1 3 2 3 0\n",
+        ),
+        (
+            "posts = [[0,1,2,3,4,5,6,7,8]]\n[mesh]\ncols = 3\nrows = 3\nwindow = 4\nvcs = 1\n",
+            9,
+            "0 1 2 3 4 5 6 7 8\n",
+        ),
+        (
+            "posts = [[5,0],[1],[2,4],[0,1,2,3,4,5]]\n[mesh]\ncols = 3\nrows = 2\nwindow = 3\nvcs = 2\n",
+            6,
+            "0 5 1 2 4 3 4 5 0 1 2\n",
+        ),
+        ("[mesh]\ncols = 2\nrows = 1\nwindow = 1\n", 2, "\n"),
+    ];
+    for (text, tiles, order) in cases {
+        let (status, _, sink) = ended(alloc, &["order"], text.as_bytes(), &[], &[])?;
+        assert_eq!(rt; status, 0, "of {text}");
+        assert_eq!(rt; sink.held(), order.as_bytes(), "of {text}");
+        let (status, _, sink) = ended(alloc, &["deliver"], text.as_bytes(), &[], &[])?;
+        assert_eq!(rt; status, 0, "of {text}");
+        let lines = lines_of_all(alloc, tiles, order)?;
+        assert_eq!(rt; sink.held(), lines.as_bytes(), "of {text}");
+    }
+    Ok(())
+}
+
+// Whether this is said of the fault of a description.
 fn says(alloc: Global, text: &[u8], message: &str) -> Result<bool, AllocError> {
     let mut source = input(alloc, text, &[])?;
     let mut sink = output(alloc, &[])?;
-    let Ended {
-        status,
-        doc_fault,
-        ..
-    } = scorpio(alloc, &["show"], &mut source, &mut sink);
-    match doc_fault {
-        Some(fault) => Ok(
-            status == 2
-                && format!(in alloc; "{fault}")?.as_str() == message
-                && sink.held().is_empty(),
-        ),
-        None => Ok(false),
-    }
+    let ended = scorpio(alloc, &["show"], &mut source, &mut sink);
+    let said = format!(in alloc; "{ended}")?;
+    let is_said = said.strip_prefix("scorpio: document: ") == Some(message);
+    Ok(ended.status == 2 && is_said && sink.held().is_empty())
 }
 
 #[test]

@@ -1,11 +1,12 @@
 ghost use Rattle.std.specs.Prelude.{◌≡◌, ◌≢◌, ◌↔◌, ◌⊎◌, ◌≤◌, map, IfSome, IsSome, IsNone, Some};
 ghost use Rattle.outside_io.specs.Streams.{Rose};
 ghost use Rattle.doc_text.specs.Doc.{doc_of};
-ghost use Rattle.scorpio_cli.specs.Commands.{text_of};
-ghost use Rattle.scorpio_cli.specs.Outcome.{Ran, Wrote};
+ghost use Rattle.scorpio_cli.specs.Commands.{IsTextOf};
+ghost use Rattle.scorpio_cli.specs.Outcome.{Ran, WroteSome};
 ghost use Rattle.scorpio_cli.specs.Top.{IsNoForm, IsStatus, HasFault, WritesText, WritesPart, IsTooLong};
 
 use crate::command::Command;
+use crate::deliver::write_deliveries;
 use crate::ended::{Ended, Stop};
 use crate::order::write_order;
 use mesh_doc::{DocEnd, Document, read_document, write_document};
@@ -16,14 +17,15 @@ use std::alloc::Global;
 const INPUT_LIMIT: u32 = 1 << 20;
 
 /// Does what the words say, over what comes from the source, into the sink: all that the program does.
-/// `order` writes the order of the requests that the description posts, `show` the description in its canonical text.
+/// `order` writes the order of the requests that the description posts, `show` the description in its canonical text, and
+/// `deliver` the sources of the requests that each tile has delivered once all that the description posts was broadcast.
 pub fn scorpio<S: Source, K: Sink>(
     alloc: Global,
     words: &[&str],
     source: &mut S,
     sink: &mut K,
 ) -> Ended
-    // It ended well: the whole text of the description was written.
+    // It ended well: a whole text of the description was written.
     ensures ok { result.status ≡ 0 → WritesText (map (λ word. word.now) words.now) (S.left source.old) (K.held sink.old) (K.held sink.new) }
 
     // Why it ended otherwise.
@@ -68,14 +70,14 @@ fn run<S: Source, K: Sink>(
     }
 }
 
-// The command's text of a description.
+// A text of the command for a description.
 fn write_text<K: Sink>(
     alloc: Global,
     command: Command,
     document: &Document,
     sink: &mut K,
 ) -> Result<(), Stop>
-    ensures { Wrote (record { old = K.held sink.old; new = K.held sink.new; before = K.faults sink.old; now = K.faults sink.new }) (text_of command (doc_of document.now)) result }
+    ensures { WroteSome (IsTextOf command (doc_of document.now)) (record { old = K.held sink.old; new = K.held sink.new; before = K.faults sink.old; now = K.faults sink.new }) result }
 {
     match command {
         Command::Order => write_order(alloc, sink, document),
@@ -83,5 +85,6 @@ fn write_text<K: Sink>(
             Ok(()) => Ok(()),
             Err(WriteFault) => Err(Stop::WriteFault),
         },
+        Command::Deliver => write_deliveries(alloc, sink, document),
     }
 }
