@@ -1,20 +1,13 @@
 -- What is kept of windows and their latches, call by call.
-use Rattle.std.proofs.Common.{◌≡◌, ℕ, ◌+◌, ◌^◌, ◌<◌, ◌≤◌, ◌==◌, List, [], ◌∷◌, ◌++◌, length, set, refl, sym, ◌∙◌, subst, arith, bit_or}
-use Rattle.std.proofs.Math.Bool.{or_comm}
+use Rattle.std.proofs.Common.{◌≡◌, ℕ, ◌+◌, ◌^◌, ◌<◌, ◌≤◌, List, [], ◌∷◌, ◌++◌, length, set, refl, sym, ◌∙◌, subst, arith, bit_or}
 use Rattle.mesh_gen.specs.Grid.{Grid, tiles, diameter}
-use Rattle.mesh_gen.specs.TileSet.{set_of, is_among}
-use Rattle.mesh_gen.proofs.TileSets.{has_tile-or, has_tile-one, has_tile-set_of, same_sets, is_among-push}
+use Rattle.mesh_gen.specs.TileSet.{set_of}
+use Rattle.mesh_gen.proofs.TileSets.{set_of-push}
 use Rattle.notify_net.specs.Latches.{LatchState}
 use Rattle.notify_net.specs.Merge.{IsAtPhase}
 use Rattle.chip_model.specs.Windows.{Windows, opening_windows, window_closed}
 use Rattle.window_core.specs.Windows.{state_of, AreSound, IsKept}
 use Rattle.window_core.proofs.Sound.{AreSound-open, AreSound-post, AreSound-merge, AreSound-close, AreSound-take}
-
--- the set of a list with one more tile
-pub set_of-push : (list : List ℕ) (t : ℕ) → set_of (list ++ t ∷ []) ≡ bit_or (2 ^ t) (set_of list)
-set_of-push list t = same_sets _ _ (λ s.
-    rw (has_tile-set_of (list ++ t ∷ []) s, is_among-push list t s, has_tile-or (2 ^ t) (set_of list) s, has_tile-one t s, has_tile-set_of list s)
-    (or_comm (is_among list s) (t == s)))
 
 -- latches of a grid that is the same
 same_grid : (old new : LatchState) (ticks : ℕ) (w : Windows) (room : ℕ) → new.grid ≡ old.grid → AreSound (state_of old ticks w room) → AreSound (state_of new ticks w room)
