@@ -23,7 +23,7 @@ use Rattle.chip_model.specs.Delivery.{network_step, network_tried, network_swept
 use Rattle.net_iface.specs.OrderedNet.{NetworkState, SameSizes}
 use Rattle.broadcast.specs.Broadcasts.{Begins, TicksFor, WindowPasses}
 use Rattle.net_iface.proofs.Binds.{bind, bind_eq, made}
-use Rattle.broadcast.proofs.Sweeping.{one_more_number, same_sizes_join}
+use Rattle.broadcast.proofs.Sweeping.{on_ok, on_err, one_more_number, same_sizes_join}
 
 -- ---- an event that may not be possible
 tried_is : (chip : Chip) (net new : OrderedNetwork) (event : Event) (step : Option OrderedNetwork) → network_step chip net event ≡ step → unwrap_or step net ≡ new → network_tried chip net event ≡ new
@@ -71,14 +71,6 @@ post_stays net new t =
 on_answer : {X E : Type 0} (P : Type 0) (answer : Result X E) → OnOk answer P → OnErr answer P → P
 on_answer P (Ok x) ok err = ok
 on_answer P (Err e) ok err = err
-
-on_ok : {X E : Type 0} (P Q : Type 0) (answer : Result X E) → (P → Q) → OnOk answer P → OnOk answer Q
-on_ok P Q (Ok x) f p = f p
-on_ok P Q (Err e) f p = tt
-
-on_err : {X E : Type 0} (P Q : Type 0) (answer : Result X E) → (P → Q) → OnErr answer P → OnErr answer Q
-on_err P Q (Ok x) f p = tt
-on_err P Q (Err e) f p = f p
 
 kept_stays : (a b : NetworkState) → b ≡ a → Stays a.network b.network
 kept_stays a b same = (ap (λ (s : NetworkState). s.network.ordered) same, ap (λ (s : NetworkState). s.network.windows.phase) same)

@@ -139,7 +139,7 @@ swept_call event a b (Err e) moved is sizes done none kept more =
     let same = ap (λ (s : NetworkState). s.network) kept in
     subst (λ moved. Sweeps (event ∷ []) a b moved) (sym is) (sweeps_one event a b false sizes (ap (λ (net : OrderedNetwork). net.windows.closed) same) (ap (λ (net : OrderedNetwork). net.windows.phase) same) (ap (λ (net : OrderedNetwork). net.ordered) same) (λ yes. cc) (λ no. none) (λ no. kept) (λ yes. cc))
 
-on_ok : {X E : Type 0} (P Q : Type 0) (answer : Result X E) → (P → Q) → OnOk answer P → OnOk answer Q
+pub on_ok : {X E : Type 0} (P Q : Type 0) (answer : Result X E) → (P → Q) → OnOk answer P → OnOk answer Q
 on_ok P Q (Ok x) f p = f p
 on_ok P Q (Err e) f p = tt
 
@@ -147,7 +147,7 @@ if_ok : {X E : Type 0} (P : X → Type 0) (Q : Type 0) (answer : Result X E) →
 if_ok P Q (Ok x) f p = f x p
 if_ok P Q (Err e) f p = tt
 
-on_err : {X E : Type 0} (P Q : Type 0) (answer : Result X E) → (P → Q) → OnErr answer P → OnErr answer Q
+pub on_err : {X E : Type 0} (P Q : Type 0) (answer : Result X E) → (P → Q) → OnErr answer P → OnErr answer Q
 on_err P Q (Ok x) f p = tt
 on_err P Q (Err e) f p = f p
 
