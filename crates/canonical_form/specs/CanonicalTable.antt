@@ -13,14 +13,16 @@ use Rattle.doc_text.specs.Canonical.{shown_words}
 abbrev pub entry : Key → Data → Members → Members
 entry key value rest = member (row_of key).name value rest
 
+-- a number
 abbrev pub number : ℕ → Data
 number n = integer (pos n)
 
--- numbers, and lists of numbers
+-- numbers
 abbrev pub numbers : List ℕ → Items
 numbers [] = no_items
 numbers (n ∷ ns) = item (number n) (numbers ns)
 
+-- lists of numbers
 abbrev pub lists : List (List ℕ) → Items
 lists [] = no_items
 lists (ns ∷ rest) = item (array (numbers ns)) (lists rest)
@@ -30,7 +32,7 @@ abbrev pub memory_entry : List ℕ → Members → Members
 memory_entry [] rest = rest
 memory_entry (word ∷ words) rest = entry Memory (array (numbers (word ∷ words))) rest
 
--- the table of the mesh, by the words of memory that it shows
+-- the members of the mesh, by the words of memory that they show
 abbrev pub mesh_showing : List ℕ → Doc → Members
 mesh_showing shown doc =
     entry Cols (number doc.cols) (
@@ -44,7 +46,7 @@ mesh_showing shown doc =
     entry Ways (number doc.ways) (
     entry Window (number doc.window) no_members)))))))))
 
--- it shows those up to the last that is not 0
+-- its members, which show the words up to the last that is not 0
 abbrev pub mesh_entries : Doc → Members
 mesh_entries doc = mesh_showing (shown_words doc.memory) doc
 
@@ -52,15 +54,17 @@ mesh_entries doc = mesh_showing (shown_words doc.memory) doc
 abbrev pub core_entries : ℕ → List Instr → Members
 core_entries tile instrs = entry Code (string (program_text instrs)) (entry Tile (number tile) no_members)
 
--- the programs that have instructions, of the tiles from this one on
+-- one program before others, where it has instructions
 abbrev pub core_item : ℕ → List Instr → Items → Items
 core_item tile [] rest = rest
 core_item tile (instr ∷ instrs) rest = item (table (core_entries tile (instr ∷ instrs))) rest
 
+-- the programs that have instructions, of the tiles from this one on
 abbrev pub core_items : ℕ → List (List Instr) → Items
 core_items tile [] = no_items
 core_items tile (program ∷ programs) = core_item tile program (core_items (tile + 1) programs)
 
+-- the list of them, where there are some
 abbrev pub core_entry : Items → Members → Members
 core_entry no_items rest = rest
 core_entry (item first more) rest = entry Core (array (item first more)) rest
@@ -70,5 +74,6 @@ abbrev pub posts_entry : List (List ℕ) → Members
 posts_entry [] = no_members
 posts_entry (window ∷ windows) = entry Posts (array (lists (window ∷ windows))) no_members
 
+-- the whole
 abbrev pub canonical_table : Doc → Members
 canonical_table doc = core_entry (core_items 0 doc.programs) (entry Mesh (table (mesh_entries doc)) (posts_entry doc.posts))
