@@ -1,8 +1,9 @@
 -- The commands: the words of each, and the texts that each may write of a description.
-use Rattle.std.specs.Prelude.{◌≡◌, ℕ, List, [], ◌∷◌, Option, Some, None, codes, if◌then◌else◌}
+use Rattle.std.specs.Prelude.{◌≡◌, ℕ, List, [], ◌∷◌, Option, Some, None, Ok, codes, if◌then◌else◌}
 use Rattle.std.specs.Str.{bytes_eq}
 use Rattle.doc_text.specs.Doc.{Doc}
 use Rattle.doc_text.specs.Canonical.{canonical}
+use Rattle.mesh_doc.specs.Reading.{reading}
 use Rattle.scorpio_cli.specs.declared.command.Command.{Command}
 use Rattle.scorpio_cli.specs.declared.command.Command.TheVariants.{Order, Show, Deliver}
 use Rattle.scorpio_cli.specs.Line.{order_text}
@@ -13,10 +14,15 @@ words_of Order = codes "order" ∷ []
 words_of Show = codes "show" ∷ []
 words_of Deliver = codes "deliver" ∷ []
 
+-- the canonical text of a description, which is read back as the same description
+pub record IsShown (doc : Doc) (text : List ℕ) : Type 0 where
+  pub canonical_is : text ≡ canonical doc
+  pub read_back : reading text ≡ Ok doc
+
 -- a text of a command for a description: the one of its order, its canonical one, or one of what its broadcast delivers
 abbrev pub IsTextOf : Command → Doc → List ℕ → Type 0
 IsTextOf Order doc text = text ≡ order_text doc
-IsTextOf Show doc text = text ≡ canonical doc
+IsTextOf Show doc text = IsShown doc text
 IsTextOf Deliver doc text = IsDelivered doc text
 
 -- the command that one word is the form of

@@ -1,7 +1,7 @@
 ghost use Rattle.std.specs.Prelude.{◌≡◌, ◌≢◌, ◌↔◌, ◌⊎◌, ◌≤◌, map, IfSome, IsSome, IsNone, Some};
 ghost use Rattle.outside_io.specs.Streams.{Rose};
 ghost use Rattle.doc_text.specs.Doc.{doc_of};
-ghost use Rattle.scorpio_cli.specs.Commands.{IsTextOf};
+ghost use Rattle.scorpio_cli.specs.Commands.{IsTextOf, IsShown};
 ghost use Rattle.scorpio_cli.specs.Outcome.{Ran, WroteSome};
 ghost use Rattle.scorpio_cli.specs.Top.{IsNoForm, IsStatus, HasFault, WritesText, WritesPart, IsTooLong};
 
@@ -9,6 +9,7 @@ use crate::command::Command;
 use crate::deliver::write_deliveries;
 use crate::ended::{Ended, Stop};
 use crate::order::write_order;
+use canonical_form::canonical_is_read_back;
 use mesh_doc::{DocEnd, Document, read_document, write_document};
 use outside_io::{ReadEnd, Sink, Source, WriteFault, read_all};
 use std::alloc::Global;
@@ -81,10 +82,18 @@ fn write_text<K: Sink>(
 {
     match command {
         Command::Order => write_order(alloc, sink, document),
-        Command::Show => match write_document(document, sink) {
-            Ok(()) => Ok(()),
-            Err(WriteFault) => Err(Stop::WriteFault),
-        },
+        Command::Show => write_shown(sink, document),
         Command::Deliver => write_deliveries(alloc, sink, document),
+    }
+}
+
+// The canonical text, which is read back as the description that it shows.
+fn write_shown<K: Sink>(sink: &mut K, document: &Document) -> Result<(), Stop>
+    ensures { WroteSome (IsShown (doc_of document.now)) (record { old = K.held sink.old; new = K.held sink.new; before = K.faults sink.old; now = K.faults sink.new }) result }
+{
+    canonical_is_read_back(document);
+    match write_document(document, sink) {
+        Ok(()) => Ok(()),
+        Err(WriteFault) => Err(Stop::WriteFault),
     }
 }
