@@ -90,31 +90,43 @@ fn ended(
 }
 
 #[test]
-fn what_fails_outside_ends_the_run_by_name(rt: HostRuntime) -> Result<(), Fail> {
+fn a_write_that_fails_ends_the_run_by_name(rt: HostRuntime) -> Result<(), Fail> {
     let alloc = rt.alloc();
-    let (status, said, sink) = ended(alloc, &["order"], FOUR_TILES.as_bytes(), &[], &[2])?;
-    assert_eq!(rt; status, 5);
-    assert_eq!(rt; said.as_str(), "scorpio: write failed");
-    assert_eq!(rt; sink.held(), b"0 3".as_slice());
+    let cases: [(&str, &[u8]); 2] = [("order", b"0 3"), ("deliver", b"tile 0: 0")];
+    for (word, written) in cases {
+        let (status, said, sink) = ended(alloc, &[word], FOUR_TILES.as_bytes(), &[], &[2])?;
+        assert_eq!(rt; status, 5);
+        assert_eq!(rt; said.as_str(), "scorpio: write failed");
+        assert_eq!(rt; sink.held(), written, "of {word}");
+    }
+    Ok(())
+}
 
+#[test]
+fn a_read_that_fails_ends_the_run_by_name(rt: HostRuntime) -> Result<(), Fail> {
+    let alloc = rt.alloc();
     let (status, said, sink) = ended(alloc, &["order"], FOUR_TILES.as_bytes(), &[0], &[])?;
     assert_eq!(rt; status, 4);
     assert_eq!(rt; said.as_str(), "scorpio: read failed");
     assert_eq!(rt; sink.held(), b"".as_slice());
+    Ok(())
+}
 
-    let (status, said, sink) = ended(alloc, &["deliver"], FOUR_TILES.as_bytes(), &[], &[2])?;
-    assert_eq!(rt; status, 5);
-    assert_eq!(rt; said.as_str(), "scorpio: write failed");
-    assert_eq!(rt; sink.held(), b"tile 0: 0".as_slice());
-
+#[test]
+fn an_input_past_the_limit_is_refused_by_name(rt: HostRuntime) -> Result<(), Fail> {
+    let alloc = rt.alloc();
     let blanks = vec![in alloc; b' '; 1_048_577]?;
     let (status, said, sink) = ended(alloc, &["show"], &blanks, &[], &[])?;
     assert_eq!(rt; status, 7);
     assert_eq!(rt; said.as_str(), "scorpio: input too long");
     assert_eq!(rt; sink.held(), b"".as_slice());
+    Ok(())
+}
 
-    let no_memory = Ended::of(Err(Stop::NoMemory));
-    let said = format!(in alloc; "{no_memory}")?;
+#[test]
+fn want_of_memory_is_said(rt: HostRuntime) -> Result<(), Fail> {
+    let ended = Ended::of(Err(Stop::NoMemory));
+    let said = format!(in rt.alloc(); "{ended}")?;
     assert_eq!(rt; said.as_str(), "scorpio: out of memory");
     Ok(())
 }
