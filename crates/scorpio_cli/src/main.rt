@@ -1,8 +1,8 @@
 //! `scorpio`: from words and bytes to text and a status.
 #![tactic(auto)]
 
-ghost use Rattle.std.specs.Prelude.{◌≡◌, ◌↔◌, IsSome};
-ghost use Rattle.scorpio_cli.specs.Top.{IsStatus};
+ghost use Rattle.std.specs.Prelude.{◌≡◌, ◌≢◌, ◌↔◌, map, IsSome};
+ghost use Rattle.scorpio_cli.specs.Top.{IsStatus, IsNoForm};
 
 mod command;
 mod deliver;
@@ -32,6 +32,8 @@ fn run<R: Read + Drop, W: Write + Drop>(
     reader: R,
     writer: W,
 ) -> Ended
+    ensures usage { result.status ≡ 1 → IsNoForm (map (λ word. word.now) words.now) }
+    ensures formed { IsNoForm (map (λ word. word.now) words.now) → result.status ≢ 0 }
     ensures statuses { IsStatus result.status }
     ensures doc_fault { IsSome result.doc_fault ↔ (result.status ≡ 2) }
 {
