@@ -75,6 +75,9 @@ pub record TileAgrees (net : OrderedNetwork) (t : ℕ) (interface : Interface) (
   pub tile : node.tile ≡ t
   pub counts : node.delivered ≡ interface.delivered
   pub within : interface.delivered ≤ length net.ordered
+  -- what it has delivered is of windows that it took
+  pub come : (count : ℕ) → slice_get net.windows.taken t ≡ Some count →
+      interface.delivered ≤ length (order (tile_count node.chip) (take count net.windows.closed))
   pub made : AreMadeBy t interface.made
   pub lines : (n : ℕ) (q : Request) → slice_get interface.made n ≡ Some q → q.line < node.chip.lines
   -- its requests stand in the order in their own order, each once

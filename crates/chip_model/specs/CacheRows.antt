@@ -1,11 +1,11 @@
 -- A cache that fills up: theorems that compute.
-use Rattle.std.specs.Prelude.{◌≡◌, ℕ, List, [], ◌∷◌, Option, Some, None, refl}
+use Rattle.std.specs.Prelude.{◌≡◌, ℕ, [], ◌∷◌, Some, None, refl}
 use Rattle.chip_model.specs.declared.line_state.State.{State}
 use Rattle.chip_model.specs.declared.line_state.State.TheVariants.{M, O, S}
 use Rattle.chip_model.specs.declared.victim.Victim.{Victim}
 use Rattle.chip_model.specs.declared.victim.Victim.TheVariants.{Empty, DropS, Put}
 use Rattle.chip_model.specs.Chip.{Chip, set_number}
-use Rattle.chip_model.specs.Cache.{Held, Cache, empty_cache, lookup, installed, without_line, victim}
+use Rattle.chip_model.specs.Cache.{Cache, empty_cache, lookup, installed, without_line, victim}
 
 -- one set of two ways
 abbrev pub two_ways : Chip

@@ -8,7 +8,7 @@ use Rattle.chip_model.specs.ChipState.{ChipState}
 use Rattle.chip_model.specs.Ownership.{OwnsByOrder}
 use Rattle.chip_model.specs.NodeShape.{NodeFits}
 use Rattle.chip_model.specs.Bookkeeping.{TileAgrees, DemandIsFollowed, IsInOrder}
-use Rattle.chip_model.specs.Suppliers.{IsSupplied, OneToCome, ComesHome, WaitersAreGets, RecordsAreFresh}
+use Rattle.chip_model.specs.Suppliers.{IsSupplied, OneToCome, ComesHome, GetsWait, WaitersAreGets, RecordsAreFresh}
 use Rattle.chip_model.specs.Writers.{IsTimely, WritersFit}
 use Rattle.chip_model.specs.Values.{ValuesHold}
 use Rattle.chip_model.specs.UnitShape.{UnitFits, InOrderHolds}
@@ -48,6 +48,7 @@ pub record ChipHolds (CoreHolds : ChipState → ℕ → UnitState → Type 0) (d
   pub network : NetworkHolds d s
   pub tiles : (t : ℕ) (interface : Interface) (unit : UnitState) → slice_get s.network.interfaces t ≡ Some interface → slice_get s.units t ≡ Some unit → UnitHolds CoreHolds d s t interface unit
   pub backs : (line : ℕ) → ComesHome s line
+  pub wait : (line : ℕ) → GetsWait s line
   pub timely : IsTimely s
   pub values : ValuesHold d s
 

@@ -1,6 +1,6 @@
 -- The parts of the invariant that compute, tried in every state of small runs: a check of the statements, and no proof.
-use Rattle.std.specs.Prelude.{◌≡◌, ℕ, ◌+◌, ◌==◌, Bool, true, false, not, ◌&&◌, ◌||◌, List, [], ◌∷◌, length, drop, Option, Some, None, nat_le, slice_get, slice_index_or, count_by, if◌then◌else◌, refl}
-use Rattle.std.specs.List.{list_all}
+use Rattle.std.specs.Prelude.{◌≡◌, ℕ, ◌+◌, ◌==◌, Bool, true, false, not, ◌&&◌, ◌||◌, List, [], ◌∷◌, length, drop, Option, Some, None, is_some, nat_le, slice_get, slice_index_or, count_by, if◌then◌else◌, refl}
+use Rattle.std.specs.List.{list_all, list_any}
 use Rattle.std.specs.Str.{bytes_eq}
 use Rattle.std.specs.Fmt.{digits}
 use Rattle.mesh_gen.specs.Grid.{x_of, y_of}
@@ -153,9 +153,19 @@ along d None events = false
 along d (Some s) [] = state_holds d s
 along d (Some s) (event ∷ events) = state_holds d s && along d (after in_order (chip_of d) s event) events
 
-pub dirty_eviction_holds : along dirty_eviction (Some (opening dirty_eviction)) (swept_from_first dirty_eviction 1000000 40).journal ≡ true
+-- in some state a tile has a demand beside a write-back
+abbrev has_both : UnitState → Bool
+has_both unit = is_some unit.node.side.misses.demand && is_some unit.node.side.misses.back
+
+abbrev beside_along : Doc → Option ChipState → List Event → Bool
+beside_along d None events = false
+beside_along d (Some s) [] = list_any has_both s.units
+beside_along d (Some s) (event ∷ events) = list_any has_both s.units || beside_along d (after in_order (chip_of d) s event) events
+
+pub dirty_eviction_holds : (let journal = (swept_from_first dirty_eviction 1000000 40).journal in
+    (along dirty_eviction (Some (opening dirty_eviction)) journal ≡ true) × (beside_along dirty_eviction (Some (opening dirty_eviction)) journal ≡ true))
 unfolding digits x_of y_of has without_port has_tile tree_outs slots at put weigh loaded set_number posted ticked taken_by entered hopped local_place served sent next_channel forwarded received injected request_posted network_ticked vector_taken expected_at copy_hopped delivered_next lookup has_room installed without_line without_shared lowest_for wanted marked_sent holding snooped data_arrived answered back_arrived request_delivered message_arrived request_sent message_sent accessed core_event in_order finished unit_at step after run owner_after owner owns witness line_value chip_slots sweeps
-dirty_eviction_holds = refl
+dirty_eviction_holds = (refl, refl)
 
 pub store_buffering_holds : along store_buffering (Some (opening store_buffering)) (swept_from_first store_buffering 1000000 40).journal ≡ true
 unfolding digits x_of y_of has without_port has_tile tree_outs slots at put weigh loaded set_number posted ticked taken_by entered hopped local_place served sent next_channel forwarded received injected request_posted network_ticked vector_taken expected_at copy_hopped delivered_next lookup has_room installed without_line without_shared lowest_for wanted marked_sent holding snooped data_arrived answered back_arrived request_delivered message_arrived request_sent message_sent accessed core_event in_order finished unit_at step after run owner_after owner owns witness line_value chip_slots sweeps
@@ -179,6 +189,8 @@ contention = record {
 }
 
 pub contention_holds : (let s = swept_from_first contention 1000000 80 in
-    (along contention (Some (opening contention)) s.journal ≡ true) × (finished s ≡ true))
+    (along contention (Some (opening contention)) s.journal ≡ true)
+    × (beside_along contention (Some (opening contention)) s.journal ≡ true)
+    × (finished s ≡ true))
 unfolding digits x_of y_of has without_port has_tile tree_outs slots at put weigh loaded set_number posted ticked taken_by entered hopped local_place served sent next_channel forwarded received injected request_posted network_ticked vector_taken expected_at copy_hopped delivered_next lookup has_room installed without_line without_shared lowest_for wanted marked_sent holding snooped data_arrived answered back_arrived request_delivered message_arrived request_sent message_sent accessed core_event in_order finished unit_at step after run owner_after owner owns witness line_value chip_slots sweeps
-contention_holds = (refl, refl)
+contention_holds = (refl, refl, refl)

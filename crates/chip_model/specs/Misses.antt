@@ -1,6 +1,6 @@
 -- The miss table of a node: what it waits for. A demand waits for a line's words, for one access of the core; a
--- write-back gives a line back to memory. Both may stand in what follows; the present rule is that at most one does.
-use Rattle.std.specs.Prelude.{ℕ, Bool, true, false, not, List, [], ◌∷◌, Option, Some, None}
+-- write-back returns a line to memory. Both may stand at once, of different lines.
+use Rattle.std.specs.Prelude.{ℕ, ◌==◌, Bool, true, false, not, List, [], ◌∷◌, Option, Some, None, if◌then◌else◌}
 use Rattle.mesh_gen.specs.declared.kind.Kind.{Kind}
 use Rattle.mesh_gen.specs.declared.kind.Kind.TheVariants.{GetS, GetM, PutM}
 use Rattle.report_text.specs.declared.access.AccessKind.{AccessKind}
@@ -36,6 +36,15 @@ pub record Misses : Type 0 where
 abbrev pub no_misses : Misses
 no_misses = record { demand = None; back = None }
 
+-- a line is the one that the demand waits for; the one that is written back
+abbrev pub is_demanded : ℕ → Option Demand → Bool
+is_demanded line None = false
+is_demanded line (Some demand) = demand.line == line
+
+abbrev pub is_written_back : ℕ → Option WriteBack → Bool
+is_written_back line None = false
+is_written_back line (Some back) = line == back.line
+
 abbrev pub is_getm : Kind → Bool
 is_getm GetM = true
 is_getm GetS = false
@@ -47,9 +56,18 @@ ends_in_getm [] = false
 ends_in_getm (last ∷ []) = is_getm last.kind
 ends_in_getm (first ∷ next ∷ rest) = ends_in_getm (next ∷ rest)
 
-abbrev pub is_store : AccessKind → Bool
-is_store Store = true
-is_store Load = false
+abbrev pub reads : AccessKind → Bool
+reads Load = true
+reads Store = false
+
+abbrev pub writes : AccessKind → Bool
+writes Store = true
+writes Load = false
+
+-- the word that an access leaves, by its value and the word before
+abbrev pub word_after : AccessKind → ℕ → ℕ → ℕ
+word_after Load value word = word
+word_after Store value word = value
 
 -- what an access that misses asks for
 abbrev pub request_for : AccessKind → Kind
@@ -72,20 +90,30 @@ new_demand kind line pending = record {
 abbrev pub new_back : ℕ → List ℕ → WriteBack
 new_back line words = record { line = line; words = words; live = true; sent = false }
 
--- the request that is still to be sent
+-- the request of a demand that was not sent
+abbrev pub wanted_by_demand : Option Demand → Option (Kind × ℕ)
+wanted_by_demand None = None
+wanted_by_demand (Some demand) = when (not demand.sent) (Some (demand.kind, demand.line))
+
+-- the request that is sent next: the write-back's before the demand's
 abbrev pub wanted_by : Option Demand → Option WriteBack → Option (Kind × ℕ)
-wanted_by (Some demand) back = when (not demand.sent) (Some (demand.kind, demand.line))
-wanted_by None (Some back) = when (not back.sent) (Some (PutM, back.line))
-wanted_by None None = None
+wanted_by demand None = wanted_by_demand demand
+wanted_by demand (Some back) = if back.sent then wanted_by_demand demand else Some (PutM, back.line)
 
 unfoldable pub wanted : Misses → Option (Kind × ℕ)
 wanted misses = wanted_by misses.demand misses.back
 
--- the same table, with that request sent
+-- the demand, sent
+abbrev pub sent_demand : Option Demand → Option Demand
+sent_demand None = None
+sent_demand (Some demand) = Some (record demand { sent = true })
+
+-- the same table, with the request sent that was next
 abbrev pub sent_by : Option Demand → Option WriteBack → Misses
-sent_by (Some demand) back = record { demand = Some (record demand { sent = true }); back = back }
-sent_by None (Some back) = record { demand = None; back = Some (record back { sent = true }) }
-sent_by None None = no_misses
+sent_by demand None = record { demand = sent_demand demand; back = None }
+sent_by demand (Some back) =
+    if back.sent then record { demand = sent_demand demand; back = Some back }
+    else record { demand = demand; back = Some (record back { sent = true }) }
 
 unfoldable pub marked_sent : Misses → Misses
 marked_sent misses = sent_by misses.demand misses.back

@@ -1,5 +1,5 @@
 -- The shape of the networks: their channels, windows and messages, whatever the order of requests is.
-use Rattle.std.specs.Prelude.{◌≡◌, ◌⊎◌, ℕ, ◌^◌, ◌<◌, ◌≤◌, Bool, true, false, List, length, Some, slice_get}
+use Rattle.std.specs.Prelude.{◌≡◌, ◌⊎◌, ℕ, ◌^◌, ◌<◌, ◌≤◌, Bool, length, Some, slice_get}
 use Rattle.mesh_gen.specs.declared.msg.Msg.{Msg}
 use Rattle.mesh_gen.specs.declared.port.Port.{Port}
 use Rattle.mesh_gen.specs.Grid.{Grid, tiles}
@@ -11,7 +11,6 @@ use Rattle.order_tracker.specs.Tracker.{IsWindow}
 use Rattle.chip_model.specs.declared.net_copy.NetCopy.{NetCopy}
 use Rattle.chip_model.specs.Chip.{Chip, tile_count}
 use Rattle.chip_model.specs.Windows.{Windows}
-use Rattle.chip_model.specs.Copies.{channels_of}
 use Rattle.chip_model.specs.OrderedNetwork.{OrderedNetwork, Interface}
 
 -- each router has the channels of an empty one

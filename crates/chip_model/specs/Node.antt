@@ -1,20 +1,19 @@
 -- A node: the cache side of a tile, its memory controller, and the queue of messages that it sends.
-use Rattle.std.specs.Prelude.{ℕ, ◌+◌, ◌*◌, ◌==◌, Bool, true, false, not, ◌||◌, List, [], ◌++◌, map, take, drop, Option, Some, None, is_some, slice_index, set, if◌then◌else◌}
+use Rattle.std.specs.Prelude.{ℕ, ◌+◌, ◌*◌, ◌==◌, Bool, true, false, not, ◌||◌, List, [], ◌++◌, map, take, drop, Option, Some, None, is_some, if◌then◌else◌}
 use Rattle.std.specs.List.{list_any}
 use Rattle.mesh_gen.specs.declared.request.Request.{Request}
 use Rattle.mesh_gen.specs.declared.msg.Msg.{Msg}
 use Rattle.mesh_gen.specs.declared.msg_kind.MsgKind.{MsgKind}
 use Rattle.mesh_gen.specs.declared.msg_kind.MsgKind.TheVariants.{Data, Back}
 use Rattle.order_tracker.specs.Order.{upwards}
-use Rattle.report_text.specs.declared.access.AccessKind.{AccessKind}
-use Rattle.report_text.specs.declared.access.AccessKind.TheVariants.{Load, Store}
 use Rattle.chip_model.specs.declared.done.Done.{Done}
+use Rattle.chip_model.specs.declared.pending.Pending.{Pending}
 use Rattle.chip_model.specs.declared.line_state.State.{State}
 use Rattle.chip_model.specs.declared.line_state.State.TheVariants.{M, O, S}
-use Rattle.chip_model.specs.Chip.{Chip, home, line_of, word_of}
+use Rattle.chip_model.specs.Chip.{Chip, home, line_of}
 use Rattle.chip_model.specs.Cache.{Cache, Held, empty_cache, lookup, has_room, installed, without_line, without_shared, lowest_for}
-use Rattle.chip_model.specs.Misses.{no_misses, request_for, new_demand, new_back, marked_sent}
-use Rattle.chip_model.specs.Snoop.{CacheSide, with_cache, with_demand, with_back, snooped, data_arrived}
+use Rattle.chip_model.specs.Misses.{no_misses, is_written_back, writes, request_for, new_demand, new_back, marked_sent}
+use Rattle.chip_model.specs.Snoop.{CacheSide, with_cache, with_demand, with_back, written_by, done_by, snooped, data_arrived}
 use Rattle.chip_model.specs.Records.{LineRecord, Records, opening_record, answered, back_arrived}
 use Rattle.chip_model.specs.Partial.{when}
 
@@ -87,9 +86,13 @@ message_sent node = record node { out = drop 1 node.out }
 
 -- The core's accesses.
 
--- whether the node waits for something
+-- whether an access waits for its words
 abbrev pub has_entry : Node → Bool
-has_entry node = is_some node.side.misses.demand || is_some node.side.misses.back
+has_entry node = is_some node.side.misses.demand
+
+-- whether the node waits for something: for words, or to write a line back
+abbrev pub waits_for_any : Node → Bool
+waits_for_any node = is_some node.side.misses.demand || is_some node.side.misses.back
 
 abbrev pub is_back : MsgKind → Bool
 is_back Back = true
@@ -102,55 +105,60 @@ holds_back out = list_any (λ (msg : Msg). is_back msg.kind) out
 abbrev pub with_side : CacheSide → Node → Node
 with_side side node = record node { side = side }
 
--- a load of a copy, and a store to the only copy, are performed at once, at the time of the delivered count
-abbrev pub load_hit : ℕ → Held → Node → Performed
-load_hit address held node =
-    (node, Some (record { kind = Load; address = address; value = slice_index held.words (word_of address); time = node.delivered }))
+-- an access that hits is performed at once, at the time of the delivered count
+abbrev pub hit_by : Pending → Held → Node → Option Done
+hit_by access held node = Some (done_by access node.delivered held.words)
 
-abbrev pub store_hit : ℕ → ℕ → Held → Node → Performed
-store_hit address value held node =
-    let new : Held = record held { words = set held.words (word_of address) value } in (
-      with_side (with_cache (installed node.chip new node.side.cache) node.side) node,
-      Some (record { kind = Store; address = address; value = value; time = node.delivered }),
-    )
+abbrev pub load_hit : Pending → Held → Node → Performed
+load_hit access held node = (node, hit_by access held node)
+
+abbrev pub store_hit : Pending → Held → Node → Performed
+store_hit access held node =
+    let new : Held = record held { words = written_by access held.words } in
+    (with_side (with_cache (installed node.chip new node.side.cache) node.side) node, hit_by access held node)
 
 -- a miss starts a demand
-abbrev pub demand_started : AccessKind → ℕ → ℕ → CacheSide → Node → Performed
-demand_started kind address value side node =
-    let demand = new_demand (request_for kind) (line_of address) (record { kind = kind; address = address; value = value }) in
-    (with_side (with_demand (Some demand) side) node, None)
+abbrev pub demand_started : Pending → CacheSide → Node → Performed
+demand_started access side node =
+    (with_side (with_demand (Some (new_demand (request_for access.kind) (line_of access.address) access)) side) node, None)
 
--- a line that the cache owns leaves it to be written back; the access is tried again later. It waits while other words
--- to give back are still to be sent
+-- a line that the cache owns leaves it to be written back; the access is tried again later. It waits while another
+-- write-back stands, or while words to write back are still to be sent
 abbrev pub back_started : Node → Option Held → Option Performed
 back_started node None = None
-back_started node (Some held) = when (not (holds_back node.out)) (Some (
+back_started node (Some held) = when (not (holds_back node.out || is_some node.side.misses.back)) (Some (
   with_side (with_back (Some (new_back held.line held.words)) (with_cache (without_line node.chip held.line node.side.cache) node.side)) node,
   None,
 ))
 
 -- a miss of a line whose set is full: a shared line is dropped silently, and where there is none one is written back
-abbrev pub room_made : AccessKind → ℕ → ℕ → Node → Option Cache → Option Performed
-room_made kind address value node (Some cache) = Some (demand_started kind address value (with_cache cache node.side) node)
-room_made kind address value node None = back_started node (lowest_for node.chip (line_of address) node.side.cache)
+abbrev pub room_made : Pending → Node → Option Cache → Option Performed
+room_made access node (Some cache) = Some (demand_started access (with_cache cache node.side) node)
+room_made access node None = back_started node (lowest_for node.chip (line_of access.address) node.side.cache)
 
 -- a miss of a line that is not in the cache
-abbrev pub missed : AccessKind → ℕ → ℕ → Node → Option Performed
-missed kind address value node =
-    if has_room node.chip node.side.cache (line_of address) then Some (demand_started kind address value node.side node)
-    else room_made kind address value node (without_shared node.chip (line_of address) node.side.cache)
+abbrev pub missed : Pending → Node → Option Performed
+missed access node =
+    if has_room node.chip node.side.cache (line_of access.address) then Some (demand_started access node.side node)
+    else room_made access node (without_shared node.chip (line_of access.address) node.side.cache)
 
-abbrev pub store_to : ℕ → ℕ → Held → Node → State → Performed
-store_to address value held node M = store_hit address value held node
-store_to address value held node O = demand_started Store address value node.side node
-store_to address value held node S = demand_started Store address value node.side node
+-- a miss is possible of any line but that one
+abbrev pub unless_written_back : Pending → Node → Option Performed → Option Performed
+unless_written_back access node miss = when (not (is_written_back (line_of access.address) node.side.misses.back)) miss
 
-abbrev pub accessed_with : AccessKind → ℕ → ℕ → Node → Option Held → Option Performed
-accessed_with kind address value node None = missed kind address value node
-accessed_with Load address value node (Some held) = Some (load_hit address held node)
-accessed_with Store address value node (Some held) = Some (store_to address value held node held.state)
+-- a write to the only copy hits; to another copy it is a miss
+abbrev pub store_to : Pending → Held → Node → State → Option Performed
+store_to access held node M = Some (store_hit access held node)
+store_to access held node O = unless_written_back access node (Some (demand_started access node.side node))
+store_to access held node S = unless_written_back access node (Some (demand_started access node.side node))
 
--- an access of the core: none where the node waits, or a write-back would have to wait
-unfoldable pub accessed : AccessKind → ℕ → ℕ → Node → Option Performed
-accessed kind address value node =
-    when (not (has_entry node)) (accessed_with kind address value node (lookup node.chip node.side.cache (line_of address)))
+abbrev pub accessed_with : Pending → Node → Option Held → Option Performed
+accessed_with access node None = unless_written_back access node (missed access node)
+accessed_with access node (Some held) =
+    if writes access.kind then store_to access held node held.state else Some (load_hit access held node)
+
+-- an access of the core: none where another one waits for its words, where its line is the one that is written back, or
+-- where a write-back would have to wait
+unfoldable pub accessed : Pending → Node → Option Performed
+accessed access node =
+    when (not (has_entry node)) (accessed_with access node (lookup node.chip node.side.cache (line_of access.address)))

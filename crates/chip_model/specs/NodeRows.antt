@@ -4,15 +4,17 @@ use Rattle.mesh_gen.specs.declared.kind.Kind.{Kind}
 use Rattle.mesh_gen.specs.declared.kind.Kind.TheVariants.{GetS, GetM, PutM}
 use Rattle.mesh_gen.specs.declared.request.Request.{Request}
 use Rattle.mesh_gen.specs.declared.msg.Msg.{Msg}
+use Rattle.mesh_gen.specs.declared.msg_kind.MsgKind.TheVariants.{Back}
 use Rattle.report_text.specs.declared.access.AccessKind.{AccessKind}
 use Rattle.report_text.specs.declared.access.AccessKind.TheVariants.{Load, Store}
 use Rattle.chip_model.specs.declared.done.Done.{Done}
+use Rattle.chip_model.specs.declared.pending.Pending.{Pending}
 use Rattle.chip_model.specs.declared.line_state.State.{State}
 use Rattle.chip_model.specs.declared.line_state.State.TheVariants.{M, O, S}
 use Rattle.chip_model.specs.declared.owner.Owner.TheVariants.{Memory, Tile}
 use Rattle.chip_model.specs.Chip.{Chip, set_number}
 use Rattle.chip_model.specs.Cache.{Held, lookup, has_room, installed, without_line, without_shared, lowest_for}
-use Rattle.chip_model.specs.Misses.{wanted, marked_sent}
+use Rattle.chip_model.specs.Misses.{Demand, wanted, marked_sent}
 use Rattle.chip_model.specs.Snoop.{holding, snooped, data_arrived, data_to}
 use Rattle.chip_model.specs.Records.{LineRecord, Records, answered, back_arrived}
 use Rattle.chip_model.specs.Node.{Node, Performed, opening_node, accessed, request_delivered, message_arrived, request_sent, message_sent}
@@ -42,8 +44,14 @@ two_tiles = record {
   controllers = 0 ∷ [];
 }
 
+abbrev pub request_for_line : ℕ → ℕ → ℕ → Kind → Request
+request_for_line line source number kind = record { source = source; number = number; kind = kind; line = line }
+
 abbrev pub request : ℕ → ℕ → Kind → Request
-request source number kind = record { source = source; number = number; kind = kind; line = 0 }
+request source number kind = request_for_line 0 source number kind
+
+abbrev pub access : AccessKind → ℕ → ℕ → Pending
+access kind address value = record { kind = kind; address = address; value = value }
 
 abbrev pub words_for_line : ℕ → List ℕ → Msg
 words_for_line tile words = data_to tile 0 words
@@ -54,7 +62,7 @@ asked_with node (Some performed) = request_sent performed.0
 
 -- the node after an access that was started and its request that was sent
 abbrev pub asked : AccessKind → ℕ → ℕ → Node → Node
-asked kind address value node = asked_with node (accessed kind address value node)
+asked kind address value node = asked_with node (accessed (access kind address value) node)
 
 -- the node after these deliveries
 abbrev pub delivered_all : List Request → Node → Node
@@ -62,7 +70,7 @@ delivered_all [] node = node
 delivered_all (q ∷ rest) node = delivered_all rest (request_delivered q node).0
 
 abbrev pub done : AccessKind → ℕ → ℕ → ℕ → Option Done
-done kind address value time = Some (record { kind = kind; address = address; value = value; time = time })
+done kind address value time = Some (record { kind = kind; address = address; value = value; time = time; old = 0 })
 
 -- what a node has for a line
 abbrev pub copy_of : Node → ℕ → Option Held
@@ -82,7 +90,7 @@ abbrev pub storing_and_written : Node
 storing_and_written = (request_delivered (request 3 0 GetM) storing_and_read).0
 
 pub words_go_on_to_all_that_wait :
-    (option_map {U = Option Done × Option (Kind × ℕ)} (λ (p : Performed). (p.1, wanted p.0.side.misses)) (accessed Store 0 5 (opening_node (four_tiles 3) 0 (replicate 64 0))) ≡ Some (None, Some (GetM, 0)))
+    (option_map {U = Option Done × Option (Kind × ℕ)} (λ (p : Performed). (p.1, wanted p.0.side.misses)) (accessed (access Store 0 5) (opening_node (four_tiles 3) 0 (replicate 64 0))) ≡ Some (None, Some (GetM, 0)))
     × ((request_delivered (request 3 0 GetM) storing_and_read).1 ≡ None)
     × (let after = message_arrived (words_for_line 0 (1 ∷ 2 ∷ 3 ∷ 4 ∷ [])) storing_and_written in
     (after.1 ≡ done Store 0 5 1)
@@ -128,7 +136,7 @@ pub words_that_came_late_serve_once :
     (let after = message_arrived (words_for_line 1 (7 ∷ 0 ∷ 0 ∷ 0 ∷ [])) invalidated in
     (after.1 ≡ done Load 0 7 1)
     × (copy_of after.0 0 ≡ None)
-    × (option_map (λ (p : Performed). p.1) (accessed Load 0 0 after.0) ≡ Some None))
+    × (option_map (λ (p : Performed). p.1) (accessed (access Load 0 0) after.0) ≡ Some None))
 unfolding set_number lookup has_room installed without_line without_shared lowest_for wanted marked_sent holding snooped data_arrived answered back_arrived accessed request_delivered message_arrived request_sent message_sent
 words_that_came_late_serve_once = (refl, refl, refl)
 
@@ -139,7 +147,7 @@ pub words_that_came_early_wait :
     × (let after = request_delivered (request 1 0 GetS) early.0 in
     (after.1 ≡ done Load 0 7 1)
     × (copy_of after.0 0 ≡ copy S (7 ∷ 0 ∷ 0 ∷ 0 ∷ []))
-    × (option_map (λ (p : Performed). p.1) (accessed Load 0 0 after.0) ≡ Some (done Load 0 7 1))))
+    × (option_map (λ (p : Performed). p.1) (accessed (access Load 0 0) after.0) ≡ Some (done Load 0 7 1))))
 unfolding set_number lookup has_room installed without_line without_shared lowest_for wanted marked_sent holding snooped data_arrived answered back_arrived accessed request_delivered message_arrived request_sent message_sent
 words_that_came_early_wait = (refl, (refl, refl, refl))
 
@@ -155,12 +163,52 @@ stale = (request_delivered (request 2 0 GetM) writing_back).0
 
 pub a_stale_write_back_ends_without_a_word :
     (copy_of modified 0 ≡ copy M (5 ∷ 2 ∷ 3 ∷ 4 ∷ []))
-    × (option_map (λ (p : Performed). wanted p.0.side.misses) (accessed Load 4 0 modified) ≡ Some (Some (PutM, 0)))
+    × (option_map (λ (p : Performed). wanted p.0.side.misses) (accessed (access Load 4 0) modified) ≡ Some (Some (PutM, 0)))
     × (stale.out ≡ words_for_line 2 (5 ∷ 2 ∷ 3 ∷ 4 ∷ []) ∷ [])
     × (let after = request_delivered (request 0 1 PutM) stale in
     (after.1 ≡ None) × (after.0.out ≡ stale.out) × (after.0.side.misses.back ≡ None))
 unfolding set_number lookup has_room installed without_line without_shared lowest_for wanted marked_sent holding snooped data_arrived answered back_arrived accessed request_delivered message_arrived request_sent message_sent
 a_stale_write_back_ends_without_a_word = (refl, refl, refl, (refl, refl, refl))
+
+-- A miss goes on beside the write-back that made space for it.
+abbrev pub missing_beside : Node
+missing_beside = asked Load 4 0 writing_back
+
+abbrev pub written_back : Node
+written_back = (request_delivered (request 0 1 PutM) missing_beside).0
+
+abbrev pub read_beside : Performed
+read_beside = message_arrived (data_to 0 1 (6 ∷ 0 ∷ 0 ∷ 0 ∷ [])) (request_delivered (request_for_line 1 0 2 GetS) written_back).0
+
+abbrev pub wanted_after : Option Performed → Option (Option (Kind × ℕ))
+wanted_after tried = option_map (λ (p : Performed). wanted p.0.side.misses) tried
+
+pub a_miss_goes_on_beside_a_write_back :
+    (wanted_after (accessed (access Load 4 0) modified) ≡ Some (Some (PutM, 0)))
+    × (accessed (access Load 0 0) writing_back ≡ None)
+    × (wanted_after (accessed (access Load 4 0) writing_back) ≡ Some (Some (GetS, 1)))
+    × (wanted missing_beside.side.misses ≡ None)
+    × (accessed (access Load 4 0) missing_beside ≡ None)
+    × (written_back.out ≡ record { to = 3; kind = Back; line = 0; words = 5 ∷ 2 ∷ 3 ∷ 4 ∷ [] } ∷ [])
+    × ((request_delivered (request_for_line 1 0 2 GetS) written_back).1 ≡ None)
+    × (read_beside.1 ≡ done Load 4 6 3)
+    × (copy_of read_beside.0 1 ≡ Some (record { line = 1; state = S; words = 6 ∷ 0 ∷ 0 ∷ 0 ∷ [] }))
+unfolding set_number lookup has_room installed without_line without_shared lowest_for wanted marked_sent holding snooped data_arrived answered back_arrived accessed request_delivered message_arrived request_sent message_sent
+a_miss_goes_on_beside_a_write_back = (refl, refl, refl, refl, refl, refl, refl, refl, refl)
+
+-- The same, where another tile's store overtakes the write-back: the miss goes on.
+abbrev pub overtaken_beside : Node
+overtaken_beside = (request_delivered (request 2 0 GetM) missing_beside).0
+
+pub a_miss_goes_on_beside_a_stale_write_back :
+    (overtaken_beside.out ≡ words_for_line 2 (5 ∷ 2 ∷ 3 ∷ 4 ∷ []) ∷ [])
+    × (let after = request_delivered (request 0 1 PutM) overtaken_beside in
+    (after.1 ≡ None)
+    × (after.0.out ≡ overtaken_beside.out)
+    × (after.0.side.misses.back ≡ None)
+    × (option_map (λ (demand : Demand). demand.ordered) after.0.side.misses.demand ≡ Some None))
+unfolding set_number lookup has_room installed without_line without_shared lowest_for wanted marked_sent holding snooped data_arrived answered back_arrived accessed request_delivered message_arrived request_sent message_sent
+a_miss_goes_on_beside_a_stale_write_back = (refl, (refl, refl, refl, refl))
 
 -- The controller: who owns a line, and who waits for its words.
 abbrev pub owned_by_zero : Records

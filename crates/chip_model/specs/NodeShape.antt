@@ -1,5 +1,5 @@
 -- The shape of a node: what holds of its cache, its demand and its write-back whatever the order of requests is.
-use Rattle.std.specs.Prelude.{◌≡◌, ◌⊎◌, ℕ, ◌+◌, ◌<◌, ◌≤◌, ◌==◌, Bool, true, false, [], ◌∷◌, length, Option, Some, None, is_some, slice_get, slice_index_or, count_by}
+use Rattle.std.specs.Prelude.{◌≡◌, ℕ, ◌+◌, ◌<◌, ◌≤◌, ◌==◌, Bool, true, false, [], ◌∷◌, length, Option, Some, None, is_some, slice_get, slice_index_or, count_by}
 use Rattle.mesh_gen.specs.declared.kind.Kind.TheVariants.{GetS, GetM}
 use Rattle.mesh_gen.specs.declared.msg.Msg.{Msg}
 use Rattle.mesh_gen.specs.Ports.{count_if}
@@ -7,7 +7,7 @@ use Rattle.chip_model.specs.declared.line_state.State.{State}
 use Rattle.chip_model.specs.declared.line_state.State.TheVariants.{M, O, S}
 use Rattle.chip_model.specs.Chip.{Chip, set_number, line_of, home}
 use Rattle.chip_model.specs.Cache.{Cache, Ways, Held, found, lookup, fits}
-use Rattle.chip_model.specs.Misses.{Demand, WriteBack, request_for}
+use Rattle.chip_model.specs.Misses.{Demand, WriteBack, request_for, ends_in_getm}
 use Rattle.chip_model.specs.Snoop.{CacheSide}
 use Rattle.chip_model.specs.Node.{Node, is_back}
 use Rattle.chip_model.specs.Ownership.{is_owned_copy}
@@ -35,7 +35,7 @@ abbrev pub is_modified : Option Held → Bool
 is_modified None = false
 is_modified (Some held) = is_modified_state held.state
 
--- how a demand stands to the cache: its line may come in without another one leaving; it is there only where a store
+-- how a demand stands to the cache: its line may come in without another one leaving; it is there only where a write
 -- waits for more than a copy to read; a demand asks for what its access needs, and is sent, ordered and answered in turn
 pub record DemandFits (chip : Chip) (cache : Cache) (demand : Demand) : Type 0 where
   pub asks : demand.kind ≡ request_for demand.pending.kind
@@ -49,6 +49,8 @@ pub record DemandFits (chip : Chip) (cache : Cache) (demand : Demand) : Type 0 w
   pub unordered : demand.ordered ≡ None → (demand.list ≡ []) × (demand.once ≡ false)
   pub reads : demand.kind ≡ GetS → demand.list ≡ []
   pub writes : demand.kind ≡ GetM → demand.once ≡ false
+  -- no copy stays where the line goes on to a tile that writes it
+  pub gone : ends_in_getm demand.list ≡ true → lookup chip cache demand.line ≡ None
 
 pub record SideFits (chip : Chip) (side : CacheSide) : Type 0 where
   pub cache : IsCache chip side.cache
@@ -56,10 +58,6 @@ pub record SideFits (chip : Chip) (side : CacheSide) : Type 0 where
   -- a line that is written back has left the cache, and is none that is waited for
   pub back : (back : WriteBack) → side.misses.back ≡ Some back → lookup chip side.cache back.line ≡ None
   pub apart : (demand : Demand) (back : WriteBack) → side.misses.demand ≡ Some demand → side.misses.back ≡ Some back → (demand.line == back.line) ≡ false
-
--- the present rule: at most one of the two stands
-abbrev pub OneStands : CacheSide → Type 0
-OneStands side = (side.misses.demand ≡ None) ⊎ (side.misses.back ≡ None)
 
 -- all lines are lines of memory, and the records are those of the lines whose home the node is
 pub record LinesFit (node : Node) : Type 0 where
@@ -74,6 +72,5 @@ OneBack node = count_if (is_some node.side.misses.back) + count_by (λ (msg : Ms
 
 pub record NodeFits (node : Node) : Type 0 where
   pub side : SideFits node.chip node.side
-  pub one : OneStands node.side
   pub back : OneBack node
   pub lines : LinesFit node

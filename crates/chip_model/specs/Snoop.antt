@@ -5,14 +5,15 @@ use Rattle.mesh_gen.specs.declared.kind.Kind.TheVariants.{GetS, GetM, PutM}
 use Rattle.mesh_gen.specs.declared.request.Request.{Request}
 use Rattle.mesh_gen.specs.declared.msg.Msg.{Msg}
 use Rattle.mesh_gen.specs.declared.msg_kind.MsgKind.TheVariants.{Data, Back}
-use Rattle.report_text.specs.declared.access.AccessKind.TheVariants.{Load, Store}
+use Rattle.report_text.specs.declared.access.AccessKind.{AccessKind}
 use Rattle.chip_model.specs.declared.done.Done.{Done}
 use Rattle.chip_model.specs.declared.line_state.State.{State}
 use Rattle.chip_model.specs.declared.line_state.State.TheVariants.{M, O, S}
+use Rattle.chip_model.specs.declared.pending.Pending.{Pending}
 use Rattle.chip_model.specs.declared.waiting.Waiting.{Waiting}
 use Rattle.chip_model.specs.Chip.{Chip, home, word_of}
 use Rattle.chip_model.specs.Cache.{Cache, Held, is_shared, lookup, installed, without_line}
-use Rattle.chip_model.specs.Misses.{Misses, Demand, WriteBack, is_getm, ends_in_getm}
+use Rattle.chip_model.specs.Misses.{Misses, Demand, WriteBack, is_getm, ends_in_getm, reads, writes, word_after}
 
 -- the cache with its misses
 pub record CacheSide : Type 0 where
@@ -127,9 +128,33 @@ snooped_with chip q side Nothing GetS = quiet side
 snooped_with chip q side Nothing GetM = quiet side
 snooped_with chip q side something PutM = quiet side
 
+-- What an access does to the words of its line.
+
+abbrev pub word_in : List ℕ → ℕ → ℕ
+word_in words address = slice_index words (word_of address)
+
+-- the words after an access
+abbrev pub written_by : Pending → List ℕ → List ℕ
+written_by access words =
+    set words (word_of access.address) (word_after access.kind access.value (word_in words access.address))
+
+-- the word before, where an access both reads and writes
+abbrev pub old_word : AccessKind → ℕ → ℕ
+old_word kind word = if reads kind && writes kind then word else 0
+
+-- what an access did at a time, by the words that were there
+abbrev pub done_by : Pending → ℕ → List ℕ → Done
+done_by access time words = record {
+  kind = access.kind;
+  address = access.address;
+  value = word_after access.kind access.value (word_in words access.address);
+  time = time;
+  old = old_word access.kind (word_in words access.address);
+}
+
 -- The node's own request, and data: a demand completes once it is ordered and its words are here.
 
--- what is left in the cache of the words that a store wrote: they are its own where nobody waits, shared where all that
+-- what is left in the cache of the words that a write left: they are its own where nobody waits, shared where all that
 -- wait read, and gone where one is to write
 abbrev pub kept_after_store : Chip → ℕ → List ℕ → List Waiting → Cache → Cache
 kept_after_store chip line words [] cache = installed chip (record { line = line; state = M; words = words }) cache
@@ -146,20 +171,16 @@ abbrev pub completed_load : Chip → Demand → ℕ → List ℕ → CacheSide �
 completed_load chip demand place words side = record {
   side = with_demand None (with_cache (kept_after_load chip demand words side.cache) side);
   sends = [];
-  done = Some (record { kind = Load; address = demand.pending.address; value = slice_index words (word_of demand.pending.address); time = place + 1 });
+  done = Some (done_by demand.pending (place + 1) words);
 }
 
--- the store changes its word, and all that wait get the words after it
-abbrev pub completed_store_with : Chip → Demand → ℕ → List ℕ → CacheSide → Outcome
-completed_store_with chip demand place words side = record {
-  side = with_demand None (with_cache (kept_after_store chip demand.line words demand.list side.cache) side);
-  sends = data_to_all demand.line words demand.list;
-  done = Some (record { kind = Store; address = demand.pending.address; value = demand.pending.value; time = place + 1 });
-}
-
+-- the write changes its word, and all that wait get the words after it
 abbrev pub completed_store : Chip → Demand → ℕ → List ℕ → CacheSide → Outcome
-completed_store chip demand place words side =
-    completed_store_with chip demand place (set words (word_of demand.pending.address) demand.pending.value) side
+completed_store chip demand place words side = record {
+  side = with_demand None (with_cache (kept_after_store chip demand.line (written_by demand.pending words) demand.list side.cache) side);
+  sends = data_to_all demand.line (written_by demand.pending words) demand.list;
+  done = Some (done_by demand.pending (place + 1) words);
+}
 
 -- the demand, ordered at a place, completes with these words
 abbrev pub completed : Chip → Demand → ℕ → List ℕ → CacheSide → Outcome

@@ -2,6 +2,7 @@
 -- the words of each write-back come home once.
 use Rattle.std.specs.Prelude.{◌≡◌, ℕ, ◌+◌, ◌<◌, ◌≤◌, ◌==◌, Bool, true, false, not, ◌&&◌, ◌||◌, List, [], ◌∷◌, length, take, drop, filter, sum_by, count_by, Option, Some, None, is_some, slice_get, slice_index_or, nat_le, if◌then◌else◌, position, option_map}
 use Rattle.std.specs.Option.{option_or}
+use Rattle.mesh_gen.specs.declared.kind.Kind.TheVariants.{GetM}
 use Rattle.mesh_gen.specs.declared.request.Request.{Request}
 use Rattle.mesh_gen.specs.declared.msg.Msg.{Msg}
 use Rattle.mesh_gen.specs.Ports.{count_if}
@@ -188,3 +189,18 @@ waiters_behind s node line (Some place) =
 abbrev pub WaitersAreGets : ChipState → Node → Type 0
 WaitersAreGets s node = (line : ℕ) (r : LineRecord) → slice_index_or node.records line None ≡ Some r →
     r.waiters ≡ (if r.fresh then [] else waiters_behind s node line (last_given_back line (delivered_to s.network.ordered node)))
+
+-- the get at a place is the one for which its tile waits
+abbrev pub IsOpen : ChipState → ℕ → Request → Type 0
+IsOpen s place q = (unit : UnitState) → slice_get s.units q.source ≡ Some unit → place_of_get s unit.node ≡ Some place
+
+-- No get for a line is complete after a GetM for it that is not, or after the last request that wrote the line back as
+-- long as its words have not come.
+pub record GetsWait (s : ChipState) (line : ℕ) : Type 0 where
+  pub after_write : (g place : ℕ) (first q : Request) (unit : UnitState) → g < place →
+      slice_get s.network.ordered g ≡ Some first → first.kind ≡ GetM → first.line ≡ line →
+      slice_get s.units first.source ≡ Some unit → place_of_get s unit.node ≡ Some g →
+      slice_get s.network.ordered place ≡ Some q → is_get q.kind ≡ true → q.line ≡ line → IsOpen s place q
+  pub after_back : (g place : ℕ) (q : Request) → 0 < backs_under_way s line + backs_to_come s line →
+      last_given_back line s.network.ordered ≡ Some g → g < place →
+      slice_get s.network.ordered place ≡ Some q → is_get q.kind ≡ true → q.line ≡ line → IsOpen s place q

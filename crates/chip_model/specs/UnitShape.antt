@@ -1,9 +1,8 @@
 -- What holds of a unit beside its node: its program and its core, and for in-order cores what a demand waits for and in
 -- which order accesses were performed.
-use Rattle.std.specs.Prelude.{◌≡◌, ℕ, ◌<◌, ◌≤◌, false, List, [], length, Some, slice_get}
+use Rattle.std.specs.Prelude.{◌≡◌, ℕ, ◌<◌, ◌≤◌, false, [], length, Some, slice_get}
 use Rattle.core_isa.specs.Core.{Effect, Becomes, Loads, Stores, Halts, effect_of, instr_at}
 use Rattle.report_text.specs.declared.access.Access.{Access}
-use Rattle.report_text.specs.declared.access.AccessKind.{AccessKind}
 use Rattle.report_text.specs.declared.access.AccessKind.TheVariants.{Load, Store}
 use Rattle.doc_text.specs.Doc.{Doc}
 use Rattle.chip_model.specs.declared.pending.Pending.{Pending}

@@ -9,6 +9,7 @@ use Rattle.report_text.specs.declared.access.Access.{Access}
 use Rattle.report_text.specs.declared.access.AccessKind.{AccessKind}
 use Rattle.report_text.specs.declared.access.AccessKind.TheVariants.{Load, Store}
 use Rattle.chip_model.specs.declared.done.Done.{Done}
+use Rattle.chip_model.specs.declared.pending.Pending.{Pending}
 use Rattle.chip_model.specs.Chip.{Chip, address_in}
 use Rattle.chip_model.specs.Node.{Node, Performed, opening_node, has_entry, accessed, request_delivered, message_arrived}
 use Rattle.chip_model.specs.Partial.{when}
@@ -72,7 +73,9 @@ performed unit (node, Some done) =
     (record unit { node = node; core = core_after unit.program done.kind done.value unit.core }, Some (access_of unit done))
 
 abbrev pub access_tried : UnitState → AccessKind → ℕ → ℕ → Option Acted
-access_tried unit kind sum value = option_map (performed unit) (accessed kind (address_in unit.node.chip sum) value unit.node)
+access_tried unit kind sum value =
+    let access : Pending = record { kind = kind; address = address_in unit.node.chip sum; value = value } in
+    option_map (performed unit) (accessed access unit.node)
 
 abbrev pub executed : UnitState → Effect → Option Acted
 executed unit (Becomes core) = Some (record unit { core = core }, None)
@@ -80,7 +83,8 @@ executed unit (Loads register sum) = access_tried unit Load sum 0
 executed unit (Stores sum value) = access_tried unit Store sum value
 executed unit Halts = Some (record unit { halted = true }, None)
 
--- a core event: none where the core has halted or waits, or a write-back would have to wait
+-- a core event: none where the core has halted or waits for words, where the access would miss on the line that is
+-- written back, or where a write-back would have to wait
 unfoldable pub core_event : UnitState → Option Acted
 core_event unit =
     when (not (unit.halted || has_entry unit.node)) (executed unit (effect_of (instr_at unit.program unit.core.place) unit.core))

@@ -1,12 +1,12 @@
 -- The law of line values: every copy of a line, wherever it is, has the value that the line has at a place of the global
 -- order, and no write that would change that value is still to come.
-use Rattle.std.specs.Prelude.{◌≡◌, ℕ, ◌<◌, ◌+◌, true, List, [], ◌∷◌, drop, Option, Some, None, slice_get, slice_index_or, position, option_map, nat_le, if◌then◌else◌}
-use Rattle.std.specs.Option.{option_or}
+use Rattle.std.specs.Prelude.{◌≡◌, ℕ, ◌<◌, true, List, Option, Some, None, slice_get, slice_index_or, if◌then◌else◌}
 use Rattle.mesh_gen.specs.declared.msg.Msg.{Msg}
 use Rattle.mesh_gen.specs.declared.msg_kind.MsgKind.{MsgKind}
 use Rattle.mesh_gen.specs.declared.msg_kind.MsgKind.TheVariants.{Data, Back}
 use Rattle.mesh_gen.specs.declared.request.Request.{Request}
 use Rattle.vc_bank.specs.Places.{at}
+use Rattle.report_text.specs.declared.access.Access.{Access}
 use Rattle.doc_text.specs.Doc.{Doc}
 use Rattle.chip_model.specs.declared.line_state.State.{State}
 use Rattle.chip_model.specs.declared.line_state.State.TheVariants.{M, O, S}
@@ -94,4 +94,5 @@ pub record NodeHasValues (d : Doc) (s : ChipState) (node : Node) : Type 0 where
 
 pub record ValuesHold (d : Doc) (s : ChipState) : Type 0 where
   pub nodes : (t : ℕ) (unit : UnitState) → slice_get s.units t ≡ Some unit → NodeHasValues d s unit.node
+  pub tiles : (place : ℕ) (a : Access) → slice_get s.accesses place ≡ Some a → a.tile < tile_count (chip_of d)
   pub channels : (router port slot : ℕ) (msg : Msg) → at s.replies router port slot ≡ Some msg → MessageFits (chip_of d) msg × MessageHasValue d s msg msg.kind

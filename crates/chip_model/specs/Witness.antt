@@ -4,7 +4,7 @@ use Rattle.std.specs.List.{fold, filter}
 use Rattle.report_text.specs.declared.access.Access.{Access}
 use Rattle.doc_text.specs.Doc.{Doc}
 use Rattle.chip_model.specs.Chip.{line_of, word_of}
-use Rattle.chip_model.specs.Misses.{is_store}
+use Rattle.chip_model.specs.Misses.{writes}
 use Rattle.chip_model.specs.Node.{words_at}
 use Rattle.chip_model.specs.ChipState.{ChipState}
 
@@ -27,7 +27,7 @@ unfoldable pub witness : ChipState → List Access
 witness s = in_sequence s.accesses
 
 abbrev pub is_write : Access → Bool
-is_write access = is_store access.kind
+is_write access = writes access.kind
 
 -- a write to a line at a place of the order, or before it
 abbrev pub writes_by : ℕ → ℕ → Access → Bool

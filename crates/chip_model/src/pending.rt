@@ -1,10 +1,10 @@
 use report_text::AccessKind;
 
-/// The access for which a core waits.
+/// An access that a core asks for.
 #[derive(Clone, Copy, Debug, PartialEq, Eq)]
 pub struct Pending {
     pub kind: AccessKind,
     pub address: u32,
-    /// What a store writes; not used for a load.
+    /// What it writes, or adds; not used for a load.
     pub value: u32,
 }

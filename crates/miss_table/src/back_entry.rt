@@ -1,10 +1,12 @@
 ghost use Rattle.std.specs.Prelude.{◌≡◌, true, false};
 ghost use Rattle.chip_model.specs.Misses.{new_back};
+ghost use Rattle.miss_table.specs.Looks.{back_look};
 
+use crate::BackLook;
 use mesh_gen::Words;
 use std::marker::Model;
 
-/// A line that is to be given back to memory.
+/// A line that is written back to memory.
 #[derive(Drop)]
 pub(crate) struct BackEntry {
     pub(crate) line: u16,
@@ -43,5 +45,16 @@ impl BackEntry {
         ensures { self.new ≡ record self.old { live = false } }
     {
         self.live = false;
+    }
+
+    pub(crate) fn look(&self) -> BackLook
+        ensures { result ≡ back_look self.now }
+    {
+        BackLook {
+            line: self.line,
+            words: self.words,
+            live: self.live,
+            sent: self.sent,
+        }
     }
 }

@@ -1,7 +1,9 @@
 ghost use Rattle.std.specs.Prelude.{◌≡◌, ◌<◌, true, IsTrue, length};
 ghost use Rattle.chip_model.specs.Misses.{new_demand, ends_in_getm};
 ghost use Rattle.miss_table.specs.Table.{ordered_at, with_early, for_once, followed_by};
+ghost use Rattle.miss_table.specs.Looks.{demand_look};
 
+use crate::DemandLook;
 use chip_model::Pending;
 use forward_list::{ForwardList, LIST_PLACES};
 use mesh_gen::{Kind, Words};
@@ -90,5 +92,21 @@ impl DemandEntry {
     {
         let DemandEntry { list, .. } = self;
         list
+    }
+
+    pub(crate) fn look(&self) -> DemandLook
+        ensures { result ≡ demand_look self.now }
+    {
+        DemandLook {
+            kind: self.kind,
+            line: self.line,
+            pending: self.pending,
+            sent: self.sent,
+            ordered: self.ordered,
+            early: self.early,
+            once: self.once,
+            list_empty: self.list.is_empty(),
+            ends_in_getm: self.list.ends_in_getm(),
+        }
     }
 }

@@ -1,4 +1,5 @@
-//! What a node waits for: a line's words, for one access of its core, or the turn to give a line back to memory.
+//! What a node waits for: a line's words, for one access of its core, and the place in the order at which a line is
+//! written back to memory.
 #![tactic(auto)]
 
 mod back_entry;
@@ -7,8 +8,5 @@ mod look;
 mod table;
 
 pub use chip_model::Pending;
-pub use look::Look;
+pub use look::{BackLook, DemandLook, Look};
 pub use table::MissTable;
-
-#[cfg(test)]
-mod tests;

@@ -1,27 +1,33 @@
 use chip_model::Pending;
 use mesh_gen::{Kind, Words};
 
-/// The entry of a table as plain data.
+/// What stands in a table, as plain data.
 #[derive(Clone, Copy, Debug, PartialEq, Eq)]
-pub enum Look {
-    Empty,
-    /// A demand. The tiles that wait behind it are told as far as rules ask: whether there are any, and whether the
-    /// last of them is to write.
-    Demand {
-        kind: Kind,
-        line: u16,
-        pending: Pending,
-        sent: bool,
-        ordered: Option<u64>,
-        early: Option<Words>,
-        once: bool,
-        list_empty: bool,
-        ends_in_getm: bool,
-    },
-    WriteBack {
-        line: u16,
-        words: Words,
-        live: bool,
-        sent: bool,
-    },
+pub struct Look {
+    pub demand: Option<DemandLook>,
+    pub back: Option<BackLook>,
+}
+
+/// A demand. Of the tiles that wait in its list it tells as much as rules ask: whether there are any, and whether the
+/// last of them is to write.
+#[derive(Clone, Copy, Debug, PartialEq, Eq)]
+pub struct DemandLook {
+    pub kind: Kind,
+    pub line: u16,
+    pub pending: Pending,
+    pub sent: bool,
+    pub ordered: Option<u64>,
+    pub early: Option<Words>,
+    pub once: bool,
+    pub list_empty: bool,
+    pub ends_in_getm: bool,
+}
+
+/// A write-back.
+#[derive(Clone, Copy, Debug, PartialEq, Eq)]
+pub struct BackLook {
+    pub line: u16,
+    pub words: Words,
+    pub live: bool,
+    pub sent: bool,
 }

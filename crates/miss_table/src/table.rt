@@ -1,7 +1,7 @@
-ghost use Rattle.std.specs.Prelude.{◌≡◌, ◌≢◌, IsTrue, IsSome, option_map};
-ghost use Rattle.chip_model.specs.Misses.{no_misses, new_demand, new_back, wanted, marked_sent};
+ghost use Rattle.std.specs.Prelude.{◌≡◌, ◌≢◌, IsSome, IsNone, false, option_map};
+ghost use Rattle.chip_model.specs.Misses.{no_misses, is_demanded, is_written_back, new_demand, new_back, wanted_by_demand, wanted, marked_sent};
 ghost use Rattle.chip_model.specs.Snoop.{stale_back};
-ghost use Rattle.miss_table.specs.Table.{HasOneAtMost, Holds, IsOnItsWay, LacksWords, IsOrderedRead, TakesOneMore, IsLive, was_sent, ordered_at, with_early, for_once, followed_by, list_of};
+ghost use Rattle.miss_table.specs.Table.{AreApart, Holds, IsOnItsWay, LacksWords, IsOrderedRead, TakesOneMore, IsLive, IsSentDemand, IsSentBack, ordered_at, with_early, for_once, followed_by, list_of};
 ghost use Rattle.miss_table.specs.Looks.{look_of};
 
 use crate::Look;
@@ -12,7 +12,7 @@ use forward_list::{ForwardList, LIST_PLACES};
 use mesh_gen::{Kind, Words};
 use std::marker::Model;
 
-/// What a node waits for: nothing, a demand or a write-back. Contracts see a place for each of the two.
+/// What a node waits for: at most one demand and at most one write-back, of different lines.
 #[derive(Drop)]
 pub struct MissTable {
     demand: Option<DemandEntry>,
@@ -24,11 +24,11 @@ impl Model for MissTable {
 
     ghost Value = { Misses };
 
-    ghost use Rattle.miss_table.specs.Table.{HasOneAtMost};
+    ghost use Rattle.miss_table.specs.Table.{AreApart};
 
     ghost view = { λ table. record { demand = table.demand; back = table.back } };
 
-    ghost invariant = { λ table. HasOneAtMost (record { demand = table.demand; back = table.back }) };
+    ghost invariant = { λ table. AreApart table.demand table.back };
 }
 
 impl MissTable {
@@ -44,7 +44,8 @@ impl MissTable {
 
     /// A demand begins, whose request is still to be sent.
     pub fn start_demand(&mut self, kind: Kind, line: u16, pending: Pending)
-        requires idle { self.old ≡ no_misses }
+        requires none { IsNone self.old.demand }
+        requires apart { is_written_back line self.old.back ≡ false }
         requires kind { kind ≢ Kind.PutM }
         ensures { self.new ≡ record self.old { demand = Some (new_demand kind line pending) } }
     {
@@ -54,21 +55,31 @@ impl MissTable {
     /// A write-back begins, whose request is still to be sent, of a line that this node owns until another one asks to
     /// write it.
     pub fn start_back(&mut self, line: u16, words: Words)
-        requires { self.old ≡ no_misses }
+        requires none { IsNone self.old.back }
+        requires apart { is_demanded line self.old.demand ≡ false }
         ensures { self.new ≡ record self.old { back = Some (new_back line words) } }
     {
         self.back = Some(BackEntry::new(line, words));
     }
 
-    /// The request that is still to be sent.
+    // The demand's request, where it is still to be sent.
+    fn wanted_by_demand(&self) -> Option<(Kind, u16)>
+        ensures { result ≡ wanted_by_demand self.now.demand }
+    {
+        match &self.demand {
+            Some(demand) => (!demand.sent).then_some((demand.kind, demand.line)),
+            None => None,
+        }
+    }
+
+    /// The request that is sent next: the write-back's before the demand's.
     #[tactic(auto, unfolding(chip_model::specs::Misses::wanted))]
     pub fn wanted(&self) -> Option<(Kind, u16)>
         ensures { result ≡ wanted self.now }
     {
-        match (&self.demand, &self.back) {
-            (Some(demand), _) => (!demand.sent).then_some((demand.kind, demand.line)),
-            (None, Some(back)) => (!back.sent).then_some((Kind::PutM, back.line)),
-            (None, None) => None,
+        match &self.back {
+            Some(back) if !back.sent => Some((Kind::PutM, back.line)),
+            Some(_) | None => self.wanted_by_demand(),
         }
     }
 
@@ -78,10 +89,13 @@ impl MissTable {
         requires { IsSome (wanted self.old) }
         ensures { self.new ≡ marked_sent self.old }
     {
-        if let Some(demand) = &mut self.demand {
-            demand.mark_sent();
-        } else if let Some(back) = &mut self.back {
-            back.mark_sent();
+        match &mut self.back {
+            Some(back) if !back.sent => back.mark_sent(),
+            Some(_) | None => {
+                if let Some(demand) = &mut self.demand {
+                    demand.mark_sent();
+                }
+            }
         }
     }
 
@@ -135,44 +149,35 @@ impl MissTable {
         }
     }
 
-    /// The entry ends. It answers the tiles that waited behind a demand; behind a write-back none does.
-    pub fn finish(&mut self) -> ForwardList
-        requires { IsTrue (was_sent self.old) }
-        ensures ended { self.new ≡ no_misses }
+    /// The demand ends. It returns the tiles that wait in its list.
+    pub fn finish_demand(&mut self) -> ForwardList
+        requires { Holds IsSentDemand self.old.demand }
+        ensures ended { self.new ≡ record self.old { demand = None } }
         ensures list { result ≡ list_of self.old.demand }
     {
-        self.back = None;
         match self.demand.take() {
             Some(demand) => demand.into_list(),
             None => ForwardList::new(),
         }
     }
 
-    /// The entry as plain data.
+    /// The write-back ends.
+    pub fn finish_back(&mut self)
+        requires { Holds IsSentBack self.old.back }
+        ensures { self.new ≡ record self.old { back = None } }
+    {
+        self.back = None;
+    }
+
+    /// What stands, as plain data.
     #[tactic(auto, unfolding(crate::specs::Looks::look_of))]
     pub fn look(&self) -> Look
-        ensures entry { result ≡ look_of self.now }
-        ensures one { HasOneAtMost self.now }
+        ensures entries { result ≡ look_of self.now }
+        ensures apart { AreApart self.now.demand self.now.back }
     {
-        match (&self.demand, &self.back) {
-            (Some(demand), _) => Look::Demand {
-                kind: demand.kind,
-                line: demand.line,
-                pending: demand.pending,
-                sent: demand.sent,
-                ordered: demand.ordered,
-                early: demand.early,
-                once: demand.once,
-                list_empty: demand.list.is_empty(),
-                ends_in_getm: demand.list.ends_in_getm(),
-            },
-            (None, Some(back)) => Look::WriteBack {
-                line: back.line,
-                words: back.words,
-                live: back.live,
-                sent: back.sent,
-            },
-            (None, None) => Look::Empty,
+        Look {
+            demand: self.demand.as_ref().map(|demand| demand.look()),
+            back: self.back.as_ref().map(|back| back.look()),
         }
     }
 }
