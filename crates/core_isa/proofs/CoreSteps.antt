@@ -3,9 +3,9 @@ use Rattle.std.proofs.Common.{◌≡◌, ℕ, ◌+◌, ◌<◌, zero, suc, List,
 use Rattle.std.proofs.lemmas.Bool.{cases_lt}
 use Rattle.std.proofs.lemmas.Option.{same_Some, option_and_then_some}
 use Rattle.core_isa.specs.declared.instr.Instr.{Instr}
-use Rattle.core_isa.specs.declared.instr.Instr.TheVariants.{Li, Add, Sub, Addi, Ld, St, Beq, Bne, Jmp, Tid, Halt}
+use Rattle.core_isa.specs.declared.instr.Instr.TheVariants.{Li, Add, Sub, Addi, Ld, St, Swap, Fadd, Beq, Bne, Jmp, Tid, Halt}
 use Rattle.core_isa.specs.declared.next.Next.TheVariants as next
-use Rattle.core_isa.specs.Core.{CoreState, Effect, Becomes, Loads, Stores, Halts, becomes, effect_of, instr_at, next_of, stepped, advanced, loaded, with_result, kind_of, received, DidMore}
+use Rattle.core_isa.specs.Core.{CoreState, Effect, Becomes, Loads, Stores, Swaps, Adds, Halts, becomes, effect_of, instr_at, next_of, stepped, advanced, loaded, with_result, kind_of, received, DidMore}
 
 one_more : (x core new : CoreState) → DidMore 1 core x → Some x ≡ Some new → DidMore 1 core new
 one_more x core new h e = subst (DidMore 1 core) (same_Some x new e) h
@@ -17,6 +17,8 @@ did_one (Sub rd ra rb) core new e = one_more _ core new (record { steps = refl; 
 did_one (Addi rd ra n) core new e = one_more _ core new (record { steps = refl; tile = refl }) e
 did_one (Ld rd ra n) core new e = cc
 did_one (St rs ra n) core new e = cc
+did_one (Swap rd ra n) core new e = cc
+did_one (Fadd rd ra n) core new e = cc
 did_one (Beq ra rb target) core new e = one_more _ core new (record { steps = refl; tile = refl }) e
 did_one (Bne ra rb target) core new e = one_more _ core new (record { steps = refl; tile = refl }) e
 did_one (Jmp target) core new e = one_more _ core new (record { steps = refl; tile = refl }) e
@@ -74,6 +76,8 @@ can_step_by : (effect : Effect) → (kind_of effect ≡ next.Register) ↔ IsSom
 can_step_by (Becomes core) = (λ _. refl, λ _. refl)
 can_step_by (Loads rd address) = (λ e. cc, λ h. cc)
 can_step_by (Stores address value) = (λ e. cc, λ h. cc)
+can_step_by (Swaps rd address value) = (λ e. cc, λ h. cc)
+can_step_by (Adds rd address value) = (λ e. cc, λ h. cc)
 can_step_by Halts = (λ e. cc, λ h. cc)
 
 pub can_step : (program : List Instr) (core : CoreState) → (next_of program core ≡ next.Register) ↔ IsSome (stepped program core)
@@ -84,9 +88,37 @@ loaded_by : (effect : Effect) (core : CoreState) (rd address value : ℕ) → ki
 loaded_by (Becomes new) core rd address value e = cc
 loaded_by (Loads r a) core rd address value e = let same : r ≡ rd = cc in ap (λ (x : ℕ). with_result x value core) same
 loaded_by (Stores a v) core rd address value e = cc
+loaded_by (Swaps r a v) core rd address value e = cc
+loaded_by (Adds r a v) core rd address value e = cc
 loaded_by Halts core rd address value e = cc
 
 pub loaded-at : (program : List Instr) (core : CoreState) (rd address value : ℕ) → next_of program core ≡ next.Load rd address → loaded program value core ≡ with_result rd value core
 unfolding next_of loaded
 loaded-at program core rd address value e =
     loaded_by (effect_of (instr_at program core.place) core) core rd address value e
+
+swapped_by : (effect : Effect) (core : CoreState) (rd address value word : ℕ) → kind_of effect ≡ next.Swap rd address value → received effect word core ≡ with_result rd word core
+swapped_by (Becomes new) core rd address value word e = cc
+swapped_by (Loads r a) core rd address value word e = cc
+swapped_by (Stores a v) core rd address value word e = cc
+swapped_by (Swaps r a v) core rd address value word e = let same : r ≡ rd = cc in ap (λ (x : ℕ). with_result x word core) same
+swapped_by (Adds r a v) core rd address value word e = cc
+swapped_by Halts core rd address value word e = cc
+
+pub swapped-at : (program : List Instr) (core : CoreState) (rd address value word : ℕ) → next_of program core ≡ next.Swap rd address value → loaded program word core ≡ with_result rd word core
+unfolding next_of loaded
+swapped-at program core rd address value word e =
+    swapped_by (effect_of (instr_at program core.place) core) core rd address value word e
+
+added_by : (effect : Effect) (core : CoreState) (rd address value word : ℕ) → kind_of effect ≡ next.Add rd address value → received effect word core ≡ with_result rd word core
+added_by (Becomes new) core rd address value word e = cc
+added_by (Loads r a) core rd address value word e = cc
+added_by (Stores a v) core rd address value word e = cc
+added_by (Swaps r a v) core rd address value word e = cc
+added_by (Adds r a v) core rd address value word e = let same : r ≡ rd = cc in ap (λ (x : ℕ). with_result x word core) same
+added_by Halts core rd address value word e = cc
+
+pub added-at : (program : List Instr) (core : CoreState) (rd address value word : ℕ) → next_of program core ≡ next.Add rd address value → loaded program word core ≡ with_result rd word core
+unfolding next_of loaded
+added-at program core rd address value word e =
+    added_by (effect_of (instr_at program core.place) core) core rd address value word e

@@ -7,7 +7,7 @@ use Rattle.std.specs.Str.{all_ascii_digits}
 use Rattle.std.proofs.lemmas.Bool.{lt-ltb, le-leb, leb-true, lt-leb, eq-eqb}
 use Rattle.std.proofs.lemmas.Fmt.{decimal_digit, digits_decimal, digits_value-decimal, decimal_nonempty}
 use Rattle.core_isa.specs.declared.instr.Instr.{Instr}
-use Rattle.core_isa.specs.declared.instr.Instr.TheVariants.{Li, Add, Sub, Addi, Ld, St, Beq, Bne, Jmp, Tid, Halt}
+use Rattle.core_isa.specs.declared.instr.Instr.TheVariants.{Li, Add, Sub, Addi, Ld, St, Swap, Fadd, Beq, Bne, Jmp, Tid, Halt}
 use Rattle.core_isa.specs.Program.{IsWithin, limit}
 use Rattle.core_isa.specs.Lines.{Line, is_label, is_line_feed, line_of}
 use Rattle.core_isa.specs.Opcodes.{Shape, Register, Number, Target, form_of, opcode_named, opcode_of, operands_of, instr_with}
@@ -26,6 +26,8 @@ instr_with-operands (Sub rd ra rb) = refl
 instr_with-operands (Addi rd ra n) = refl
 instr_with-operands (Ld rd ra n) = refl
 instr_with-operands (St rs ra n) = refl
+instr_with-operands (Swap rd ra n) = refl
+instr_with-operands (Fadd rd ra n) = refl
 instr_with-operands (Beq ra rb target) = refl
 instr_with-operands (Bne ra rb target) = refl
 instr_with-operands (Jmp target) = refl
@@ -39,6 +41,8 @@ values_of len (Sub rd ra rb) h = (h.0, (h.1, (h.2, tt)))
 values_of len (Addi rd ra n) h = (h.0, (h.1, (h.2, tt)))
 values_of len (Ld rd ra n) h = (h.0, (h.1, (h.2, tt)))
 values_of len (St rs ra n) h = (h.0, (h.1, (h.2, tt)))
+values_of len (Swap rd ra n) h = (h.0, (h.1, (h.2, tt)))
+values_of len (Fadd rd ra n) h = (h.0, (h.1, (h.2, tt)))
 values_of len (Beq ra rb target) h = (h.0, (h.1, (h.2, tt)))
 values_of len (Bne ra rb target) h = (h.0, (h.1, (h.2, tt)))
 values_of len (Jmp target) h = (h, tt)
@@ -54,6 +58,8 @@ opcode_named-word (Sub rd ra rb) = refl
 opcode_named-word (Addi rd ra n) = refl
 opcode_named-word (Ld rd ra n) = refl
 opcode_named-word (St rs ra n) = refl
+opcode_named-word (Swap rd ra n) = refl
+opcode_named-word (Fadd rd ra n) = refl
 opcode_named-word (Beq ra rb target) = refl
 opcode_named-word (Bne ra rb target) = refl
 opcode_named-word (Jmp target) = refl
@@ -67,6 +73,8 @@ is_label-word (Sub rd ra rb) = refl
 is_label-word (Addi rd ra n) = refl
 is_label-word (Ld rd ra n) = refl
 is_label-word (St rs ra n) = refl
+is_label-word (Swap rd ra n) = refl
+is_label-word (Fadd rd ra n) = refl
 is_label-word (Beq ra rb target) = refl
 is_label-word (Bne ra rb target) = refl
 is_label-word (Jmp target) = refl
@@ -80,6 +88,8 @@ word_word (Sub rd ra rb) = record { filled = lit< tt; plain = (lit≤ tt, (lit�
 word_word (Addi rd ra n) = record { filled = lit< tt; plain = (lit≤ tt, (lit≤ tt, (lit≤ tt, (lit≤ tt, tt)))) }
 word_word (Ld rd ra n) = record { filled = lit< tt; plain = (lit≤ tt, (lit≤ tt, tt)) }
 word_word (St rs ra n) = record { filled = lit< tt; plain = (lit≤ tt, (lit≤ tt, tt)) }
+word_word (Swap rd ra n) = record { filled = lit< tt; plain = (lit≤ tt, (lit≤ tt, (lit≤ tt, (lit≤ tt, tt)))) }
+word_word (Fadd rd ra n) = record { filled = lit< tt; plain = (lit≤ tt, (lit≤ tt, (lit≤ tt, (lit≤ tt, tt)))) }
 word_word (Beq ra rb target) = record { filled = lit< tt; plain = (lit≤ tt, (lit≤ tt, (lit≤ tt, tt))) }
 word_word (Bne ra rb target) = record { filled = lit< tt; plain = (lit≤ tt, (lit≤ tt, (lit≤ tt, tt))) }
 word_word (Jmp target) = record { filled = lit< tt; plain = (lit≤ tt, (lit≤ tt, (lit≤ tt, tt))) }

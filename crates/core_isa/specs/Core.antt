@@ -2,7 +2,7 @@
 -- A new instruction has a clause in `effect_of`, and its arms in `Core::next` and `Core::step`.
 use Rattle.std.specs.Prelude.{◌≡◌, ℕ, ◌≤◌, ◌+◌, ◌-◌, ◌%◌, ◌^◌, ◌==◌, suc, zero, Bool, true, false, if◌then◌else◌, List, length, Option, Some, None, unwrap_or, option_and_then, replicate, slice_index, slice_set, slice_get}
 use Rattle.core_isa.specs.declared.instr.Instr.{Instr}
-use Rattle.core_isa.specs.declared.instr.Instr.TheVariants.{Li, Add, Sub, Addi, Ld, St, Beq, Bne, Jmp, Tid, Halt}
+use Rattle.core_isa.specs.declared.instr.Instr.TheVariants.{Li, Add, Sub, Addi, Ld, St, Swap, Fadd, Beq, Bne, Jmp, Tid, Halt}
 use Rattle.core_isa.specs.Program.{limit}
 use Rattle.core_isa.specs.declared.next.Next.{Next}
 use Rattle.core_isa.specs.declared.next.Next.TheVariants as next
@@ -48,11 +48,14 @@ abbrev pub with_result : ℕ → ℕ → CoreState → CoreState
 with_result rd value core = gone_on (record core { registers = slice_set core.registers rd value })
 
 -- what an instruction does: the core becomes this one; or it loads into a register from an address;
--- or it stores at an address a value; or it halts
+-- or it stores at an address a value; or it swaps with a register, or adds to an address, a value, which is
+-- the register's; or it halts
 pub data Effect : Type 0 where
   Becomes : CoreState → Effect
   Loads : ℕ → ℕ → Effect
   Stores : ℕ → ℕ → Effect
+  Swaps : ℕ → ℕ → ℕ → Effect
+  Adds : ℕ → ℕ → ℕ → Effect
   Halts : Effect
 
 -- the instruction set
@@ -63,6 +66,8 @@ effect_of (Sub rd ra rb) core = Becomes (with_result rd (wrapped_difference (reg
 effect_of (Addi rd ra n) core = Becomes (with_result rd (wrapped_sum (register ra core) n) core)
 effect_of (Ld rd ra n) core = Loads rd (wrapped_sum (register ra core) n)
 effect_of (St rs ra n) core = Stores (wrapped_sum (register ra core) n) (register rs core)
+effect_of (Swap rd ra n) core = Swaps rd (wrapped_sum (register ra core) n) (register rd core)
+effect_of (Fadd rd ra n) core = Adds rd (wrapped_sum (register ra core) n) (register rd core)
 effect_of (Beq ra rb target) core = Becomes (gone_to (if register ra core == register rb core then target else core.place + 1) core)
 effect_of (Bne ra rb target) core = Becomes (gone_to (if register ra core == register rb core then core.place + 1 else target) core)
 effect_of (Jmp target) core = Becomes (gone_to target core)
@@ -83,6 +88,8 @@ abbrev pub kind_of : Effect → Next
 kind_of (Becomes core) = next.Register
 kind_of (Loads rd address) = next.Load rd address
 kind_of (Stores address value) = next.Store address value
+kind_of (Swaps rd address value) = next.Swap rd address value
+kind_of (Adds rd address value) = next.Add rd address value
 kind_of Halts = next.Halted
 
 -- what the core is about to do
@@ -99,6 +106,12 @@ abbrev pub is_store : Next → Bool
 is_store (next.Store address value) = true
 is_store _ = false
 
+-- a swap or an add is next, which reads a word and writes it at one time
+abbrev pub is_read_modify_write : Next → Bool
+is_read_modify_write (next.Swap rd address value) = true
+is_read_modify_write (next.Add rd address value) = true
+is_read_modify_write _ = false
+
 -- the core that this makes, where it makes one
 abbrev pub becomes : Effect → Option CoreState
 becomes (Becomes core) = Some core
@@ -113,12 +126,14 @@ unfoldable pub advanced : List Instr → ℕ → CoreState → Option CoreState
 advanced program zero core = Some core
 advanced program (suc n) core = option_and_then (stepped program) (advanced program n core)
 
--- the core once the load has given this value
+-- the core once the word that a load, a swap or an add reads has come
 abbrev pub received : Effect → ℕ → CoreState → CoreState
 received (Loads rd address) value core = with_result rd value core
+received (Swaps rd address value) old core = with_result rd old core
+received (Adds rd address value) old core = with_result rd old core
 received _ value core = core
 
--- the core after the load that is next, which gave this value
+-- the core after the load, swap or add that is next, which read this word
 unfoldable pub loaded : List Instr → ℕ → CoreState → CoreState
 loaded program value core = received (effect_of (instr_at program core.place) core) value core
 

@@ -5,7 +5,7 @@ use Rattle.std.specs.Prelude.{ℕ, List, [], ◌∷◌, Option, slice_index, cod
 use Rattle.std.specs.List.{find}
 use Rattle.std.specs.Str.{bytes_eq}
 use Rattle.core_isa.specs.declared.instr.Instr.{Instr}
-use Rattle.core_isa.specs.declared.instr.Instr.TheVariants.{Li, Add, Sub, Addi, Ld, St, Beq, Bne, Jmp, Tid, Halt}
+use Rattle.core_isa.specs.declared.instr.Instr.TheVariants.{Li, Add, Sub, Addi, Ld, St, Swap, Fadd, Beq, Bne, Jmp, Tid, Halt}
 use Rattle.core_isa.specs.declared.opcode.Opcode.{Opcode}
 use Rattle.core_isa.specs.declared.opcode.Opcode.TheVariants as opcode
 
@@ -26,6 +26,8 @@ form_of opcode.Sub = record { word = codes "sub"; shapes = Register ∷ Register
 form_of opcode.Addi = record { word = codes "addi"; shapes = Register ∷ Register ∷ Number ∷ [] }
 form_of opcode.Ld = record { word = codes "ld"; shapes = Register ∷ Register ∷ Number ∷ [] }
 form_of opcode.St = record { word = codes "st"; shapes = Register ∷ Register ∷ Number ∷ [] }
+form_of opcode.Swap = record { word = codes "swap"; shapes = Register ∷ Register ∷ Number ∷ [] }
+form_of opcode.Fadd = record { word = codes "fadd"; shapes = Register ∷ Register ∷ Number ∷ [] }
 form_of opcode.Beq = record { word = codes "beq"; shapes = Register ∷ Register ∷ Target ∷ [] }
 form_of opcode.Bne = record { word = codes "bne"; shapes = Register ∷ Register ∷ Target ∷ [] }
 form_of opcode.Jmp = record { word = codes "jmp"; shapes = Target ∷ [] }
@@ -33,7 +35,7 @@ form_of opcode.Tid = record { word = codes "tid"; shapes = Register ∷ [] }
 form_of opcode.Halt = record { word = codes "halt"; shapes = [] }
 
 abbrev pub all_opcodes : List Opcode
-all_opcodes = opcode.Li ∷ opcode.Add ∷ opcode.Sub ∷ opcode.Addi ∷ opcode.Ld ∷ opcode.St ∷ opcode.Beq ∷ opcode.Bne ∷ opcode.Jmp ∷ opcode.Tid ∷ opcode.Halt ∷ []
+all_opcodes = opcode.Li ∷ opcode.Add ∷ opcode.Sub ∷ opcode.Addi ∷ opcode.Ld ∷ opcode.St ∷ opcode.Swap ∷ opcode.Fadd ∷ opcode.Beq ∷ opcode.Bne ∷ opcode.Jmp ∷ opcode.Tid ∷ opcode.Halt ∷ []
 
 -- the opcode that a word names
 unfoldable pub opcode_named : List ℕ → Option Opcode
@@ -47,6 +49,8 @@ instr_with opcode.Sub v = Sub (slice_index v 0) (slice_index v 1) (slice_index v
 instr_with opcode.Addi v = Addi (slice_index v 0) (slice_index v 1) (slice_index v 2)
 instr_with opcode.Ld v = Ld (slice_index v 0) (slice_index v 1) (slice_index v 2)
 instr_with opcode.St v = St (slice_index v 0) (slice_index v 1) (slice_index v 2)
+instr_with opcode.Swap v = Swap (slice_index v 0) (slice_index v 1) (slice_index v 2)
+instr_with opcode.Fadd v = Fadd (slice_index v 0) (slice_index v 1) (slice_index v 2)
 instr_with opcode.Beq v = Beq (slice_index v 0) (slice_index v 1) (slice_index v 2)
 instr_with opcode.Bne v = Bne (slice_index v 0) (slice_index v 1) (slice_index v 2)
 instr_with opcode.Jmp v = Jmp (slice_index v 0)
@@ -60,6 +64,8 @@ opcode_of (Sub rd ra rb) = opcode.Sub
 opcode_of (Addi rd ra n) = opcode.Addi
 opcode_of (Ld rd ra n) = opcode.Ld
 opcode_of (St rs ra n) = opcode.St
+opcode_of (Swap rd ra n) = opcode.Swap
+opcode_of (Fadd rd ra n) = opcode.Fadd
 opcode_of (Beq ra rb target) = opcode.Beq
 opcode_of (Bne ra rb target) = opcode.Bne
 opcode_of (Jmp target) = opcode.Jmp
@@ -73,6 +79,8 @@ operands_of (Sub rd ra rb) = rd ∷ ra ∷ rb ∷ []
 operands_of (Addi rd ra n) = rd ∷ ra ∷ n ∷ []
 operands_of (Ld rd ra n) = rd ∷ ra ∷ n ∷ []
 operands_of (St rs ra n) = rs ∷ ra ∷ n ∷ []
+operands_of (Swap rd ra n) = rd ∷ ra ∷ n ∷ []
+operands_of (Fadd rd ra n) = rd ∷ ra ∷ n ∷ []
 operands_of (Beq ra rb target) = ra ∷ rb ∷ target ∷ []
 operands_of (Bne ra rb target) = ra ∷ rb ∷ target ∷ []
 operands_of (Jmp target) = target ∷ []

@@ -2,7 +2,7 @@
 use Rattle.std.specs.Prelude.{ℕ, ◌<◌, ◌≤◌, ◌^◌, List, length}
 use Rattle.std.specs.List.{AllByRecursion}
 use Rattle.core_isa.specs.declared.instr.Instr.{Instr}
-use Rattle.core_isa.specs.declared.instr.Instr.TheVariants.{Li, Add, Sub, Addi, Ld, St, Beq, Bne, Jmp, Tid, Halt}
+use Rattle.core_isa.specs.declared.instr.Instr.TheVariants.{Li, Add, Sub, Addi, Ld, St, Swap, Fadd, Beq, Bne, Jmp, Tid, Halt}
 
 -- how many instructions a program may have
 abbrev pub limit : ℕ
@@ -24,6 +24,8 @@ IsWithin len (Sub rd ra rb) = IsRegister rd × IsRegister ra × IsRegister rb
 IsWithin len (Addi rd ra n) = IsRegister rd × IsRegister ra × IsNumber n
 IsWithin len (Ld rd ra n) = IsRegister rd × IsRegister ra × IsNumber n
 IsWithin len (St rs ra n) = IsRegister rs × IsRegister ra × IsNumber n
+IsWithin len (Swap rd ra n) = IsRegister rd × IsRegister ra × IsNumber n
+IsWithin len (Fadd rd ra n) = IsRegister rd × IsRegister ra × IsNumber n
 IsWithin len (Beq ra rb target) = IsRegister ra × IsRegister rb × (target ≤ len)
 IsWithin len (Bne ra rb target) = IsRegister ra × IsRegister rb × (target ≤ len)
 IsWithin len (Jmp target) = target ≤ len

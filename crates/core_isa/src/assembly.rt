@@ -180,6 +180,14 @@ fn instr_with_operands(opcode: Opcode, operands: &Operands<'_, '_>) -> Result<In
             let (rs, ra, n) = operands.two_registers_and_number()?;
             Ok(Instr::St { rs, ra, n })
         }
+        Opcode::Swap => {
+            let (rd, ra, n) = operands.two_registers_and_number()?;
+            Ok(Instr::Swap { rd, ra, n })
+        }
+        Opcode::Fadd => {
+            let (rd, ra, n) = operands.two_registers_and_number()?;
+            Ok(Instr::Fadd { rd, ra, n })
+        }
         Opcode::Beq => {
             let (ra, rb, target) = operands.two_registers_and_target()?;
             Ok(Instr::Beq { ra, rb, target })

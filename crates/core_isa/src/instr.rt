@@ -18,6 +18,10 @@ pub enum Instr {
     Ld { rd: u8, ra: u8, n: u32 },
     /// the word at ra + n = rs
     St { rs: u8, ra: u8, n: u32 },
+    /// the word at ra + n becomes rd's old value, and rd the word's
+    Swap { rd: u8, ra: u8, n: u32 },
+    /// the word at ra + n becomes its old value + rd's, and rd the word's old value
+    Fadd { rd: u8, ra: u8, n: u32 },
     /// goes to the target if ra and rb are equal
     Beq { ra: u8, rb: u8, target: u16 },
     /// goes to the target if ra and rb differ
@@ -41,6 +45,8 @@ impl Instr {
             Instr::Addi { .. } => Opcode::Addi,
             Instr::Ld { .. } => Opcode::Ld,
             Instr::St { .. } => Opcode::St,
+            Instr::Swap { .. } => Opcode::Swap,
+            Instr::Fadd { .. } => Opcode::Fadd,
             Instr::Beq { .. } => Opcode::Beq,
             Instr::Bne { .. } => Opcode::Bne,
             Instr::Jmp { .. } => Opcode::Jmp,

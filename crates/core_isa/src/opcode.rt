@@ -10,6 +10,8 @@ pub(crate) enum Opcode {
     Addi,
     Ld,
     St,
+    Swap,
+    Fadd,
     Beq,
     Bne,
     Jmp,
@@ -18,13 +20,15 @@ pub(crate) enum Opcode {
 }
 
 impl Opcode {
-    const ALL: [Opcode; 11] = [
+    const ALL: [Opcode; 13] = [
         Opcode::Li,
         Opcode::Add,
         Opcode::Sub,
         Opcode::Addi,
         Opcode::Ld,
         Opcode::St,
+        Opcode::Swap,
+        Opcode::Fadd,
         Opcode::Beq,
         Opcode::Bne,
         Opcode::Jmp,
@@ -42,6 +46,8 @@ impl Opcode {
             Opcode::Addi => "addi",
             Opcode::Ld => "ld",
             Opcode::St => "st",
+            Opcode::Swap => "swap",
+            Opcode::Fadd => "fadd",
             Opcode::Beq => "beq",
             Opcode::Bne => "bne",
             Opcode::Jmp => "jmp",

@@ -58,7 +58,11 @@ fn push_operands(line: &mut ArrayString<LINE_SIZE>, instr: &Instr)
             push_register(line, ra);
             push_register(line, rb);
         }
-        Instr::Addi { rd, ra, n } | Instr::Ld { rd, ra, n } | Instr::St { rs: rd, ra, n } => {
+        Instr::Addi { rd, ra, n }
+        | Instr::Ld { rd, ra, n }
+        | Instr::St { rs: rd, ra, n }
+        | Instr::Swap { rd, ra, n }
+        | Instr::Fadd { rd, ra, n } => {
             push_register(line, rd);
             push_register(line, ra);
             push_number(line, n);

@@ -18,8 +18,14 @@ pub fn core_laws()
     ensures joined { (program : List Instr) (m n : ℕ) (core : CoreState)
         → advanced program (m + n) core ≡ option_and_then (advanced program n) (advanced program m core) }
 
-    // The register of a load receives its value.
-    ensures received { (program : List Instr) (core : CoreState) (rd address value : ℕ)
+    // The register of a load, a swap and an add receives the word that was read.
+    ensures received { (program : List Instr) (core : CoreState) (rd address word : ℕ)
         → next_of program core ≡ Next.Load rd address
-        → loaded program value core ≡ with_result rd value core }
+        → loaded program word core ≡ with_result rd word core }
+    ensures swapped { (program : List Instr) (core : CoreState) (rd address value word : ℕ)
+        → next_of program core ≡ Next.Swap rd address value
+        → loaded program word core ≡ with_result rd word core }
+    ensures added { (program : List Instr) (core : CoreState) (rd address value word : ℕ)
+        → next_of program core ≡ Next.Add rd address value
+        → loaded program word core ≡ with_result rd word core }
 {}

@@ -1,6 +1,6 @@
 ghost use Rattle.std.specs.Prelude.{◌≡◌, ◌+◌, ◌<◌, ◌≤◌, ◌^◌, None, Some, false, IsTrue, MatchBool, length, if◌then◌else◌};
 ghost use Rattle.core_isa.specs.Program.{IsProgram, IsRegister, IsWithin, limit};
-ghost use Rattle.core_isa.specs.Core.{IsCore, new_core, register, gone_to, gone_on, with_result, instr_at, next_of, is_halt, is_load, is_store, stepped, advanced, loaded, stored, DidMore};
+ghost use Rattle.core_isa.specs.Core.{IsCore, new_core, register, gone_to, gone_on, with_result, instr_at, next_of, is_halt, is_load, is_store, is_read_modify_write, stepped, advanced, loaded, stored, DidMore};
 
 use crate::{Instr, Next, Program};
 use std::marker::Model;
@@ -62,6 +62,16 @@ impl Core {
                 address: self.register(ra).wrapping_add(n),
                 value: self.register(rs),
             },
+            Instr::Swap { rd, ra, n } => Next::Swap {
+                rd,
+                address: self.register(ra).wrapping_add(n),
+                value: self.register(rd),
+            },
+            Instr::Fadd { rd, ra, n } => Next::Add {
+                rd,
+                address: self.register(ra).wrapping_add(n),
+                value: self.register(rd),
+            },
             Instr::Halt => Next::Halted,
             Instr::Li { .. }
             | Instr::Add { .. }
@@ -115,6 +125,18 @@ impl Core {
         }
     }
 
+    /// The swap or add that is next is done: its register has the old value of the word.
+    #[tactic(auto, unfolding(crate::specs::Core::loaded))]
+    pub fn both_done(&mut self, program: &Program, old: u32)
+        requires next { IsTrue (is_read_modify_write (next_of program.now self.old)) }
+        requires steps { self.old.steps + 1 < 2 ^ 63 }
+        ensures { self.new ≡ loaded program.now old self.old }
+    {
+        if let Instr::Swap { rd, .. } | Instr::Fadd { rd, .. } = self.instr(program) {
+            self.set(rd, old);
+        }
+    }
+
     // Does the next instruction where it is a register instruction, and says whether it is one.
     #[tactic(auto, unfolding(crate::specs::Core::stepped))]
     fn step(&mut self, program: &Program) -> bool
@@ -139,7 +161,11 @@ impl Core {
             }
             Instr::Jmp { target } => self.go_to(target),
             Instr::Tid { rd } => self.set(rd, u32::from(self.tile)),
-            Instr::Ld { .. } | Instr::St { .. } | Instr::Halt => return false,
+            Instr::Ld { .. }
+            | Instr::St { .. }
+            | Instr::Swap { .. }
+            | Instr::Fadd { .. }
+            | Instr::Halt => return false,
         }
         true
     }

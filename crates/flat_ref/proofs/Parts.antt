@@ -1,19 +1,20 @@
 -- An execution and its parts: each core with its own accesses, and memory.
-use Rattle.std.proofs.Common.{◌≡◌, ℕ, ◌%◌, ◌<◌, ◌&&◌, zero, suc, true, false, eqb, List, [], ◌∷◌, Option, Some, None, IsSome, option_and_then, length, slice_get, get_or, set, sym, ap, ◌∙◌, inl, inr, refl, length-set, arith}
+use Rattle.std.proofs.Common.{◌≡◌, ℕ, ◌%◌, ◌<◌, ◌==◌, ◌&&◌, ◌||◌, not, cond, zero, suc, Bool, true, false, eqb, List, [], ◌∷◌, Option, Some, None, IsSome, option_and_then, length, slice_get, get_or, set, sym, ap, ◌∙◌, inl, inr, refl, length-set, arith}
 use Rattle.std.specs.List.{fold, AllByRecursion}
-use Rattle.std.proofs.lemmas.Bool.{cases_eq, and_parts, false≢true}
+use Rattle.std.proofs.lemmas.Bool.{cases_eq, and_parts, eq-eqb, false≢true}
 use Rattle.std.proofs.lemmas.Bool.Decides.{nat_tests}
 use Rattle.std.proofs.lemmas.Option.{same_Some, cond_some, option_and_then_some, slice_get_within}
 use Rattle.std.proofs.lemmas.List.Folds.{fold_stays}
 use Rattle.core_isa.specs.declared.instr.Instr.{Instr}
 use Rattle.core_isa.specs.declared.next.Next.{Next}
 use Rattle.core_isa.specs.declared.next.Next.TheVariants as next
-use Rattle.core_isa.specs.Core.{CoreState, next_of, loaded, stored}
+use Rattle.core_isa.specs.Core.{CoreState, next_of, loaded, stored, wrapped_sum}
 use Rattle.report_text.specs.declared.access.Access.{Access}
 use Rattle.report_text.specs.declared.access.AccessKind.{AccessKind}
 use Rattle.report_text.specs.declared.access.AccessKind.TheVariants as kind
+use Rattle.report_text.specs.Accesses.{reads, writes, read_by}
 use Rattle.flat_ref.specs.declared.flat.Flat.{Flat}
-use Rattle.flat_ref.specs.Taking.{◌>>=◌, core_at, made, made_by, served, taken, taken_all}
+use Rattle.flat_ref.specs.Taking.{◌>>=◌, core_at, made, made_by, reads_right, served, taken, taken_all}
 use Rattle.flat_ref.specs.Order.{word_by}
 use Rattle.flat_ref.specs.Consistency.{accesses_of, made_all}
 use Rattle.flat_ref.proofs.Runs.{taken_all_none, taken_all_cons}
@@ -46,47 +47,67 @@ own_first t a rest same = let test : eqb a.tile t ≡ true = grind (arith, nat_t
 pub own_other : (t : ℕ) (a : Access) (rest : List Access) → (a.tile ≡ t → ⊥) → accesses_of t (a ∷ rest) ≡ accesses_of t rest
 own_other t a rest other = let test : eqb a.tile t ≡ false = grind (arith, nat_tests) in rw test refl
 
--- memory, where a load has the value that it has to have
+-- memory, where an access that reads has the word that it has to have
 pub record Serves (memory : List ℕ) (a : Access) : Type 0 where
   pub words : List ℕ
-  pub served_is : served memory a a.kind ≡ Some words
+  pub served_is : served memory a ≡ Some words
   pub as_long : length words ≡ length memory
-  pub word : (address : ℕ) → a.address < length memory → get_or words address 0 ≡ word_by address a a.kind (get_or memory address 0)
+  pub word : (address : ℕ) → a.address < length memory → get_or words address 0 ≡ word_by address a (get_or memory address 0)
 
-pub serves_by : (memory : List ℕ) (a : Access) (k : AccessKind) → a.kind ≡ k → (a.kind ≡ kind.Load → a.value ≡ get_or memory a.address 0) → Serves memory a
-serves_by memory a kind.Load is_kind right =
-    let test : eqb (get_or memory a.address 0) a.value ≡ true = grind (arith, nat_tests, right is_kind) in
+-- a word of memory after an access of this kind
+word_as : (memory : List ℕ) (a : Access) (written : Bool) (address : ℕ) → a.address < length memory → get_or (cond written (set memory a.address a.value) memory) address 0 ≡ cond (written && (a.address == address)) a.value (get_or memory address 0)
+word_as memory a true address within = set_word memory a.address a.value address within
+word_as memory a false address within = refl
+
+length_as : (memory : List ℕ) (a : Access) (written : Bool) → length (cond written (set memory a.address a.value) memory) ≡ length memory
+length_as memory a true = length-set memory a.address a.value
+length_as memory a false = refl
+
+reads_as : (memory : List ℕ) (a : Access) (read : Bool) → (read ≡ true → read_by a ≡ get_or memory a.address 0) → (not read || (get_or memory a.address 0 == read_by a)) ≡ true
+reads_as memory a true right = eq-eqb _ _ (sym (right refl))
+reads_as memory a false right = refl
+
+pub serves_by : (memory : List ℕ) (a : Access) → (reads a.kind ≡ true → read_by a ≡ get_or memory a.address 0) → Serves memory a
+serves_by memory a right =
+    let test = reads_as memory a (reads a.kind) right in
     record {
-      words = memory;
-      served_is = rw (is_kind, test) refl;
-      as_long = refl;
-      word = λ address within. rw is_kind refl;
+      words = cond (writes a.kind) (set memory a.address a.value) memory;
+      served_is = rw test refl;
+      as_long = length_as memory a (writes a.kind);
+      word = λ address within. word_as memory a (writes a.kind) address within;
     }
-serves_by memory a kind.Store is_kind right = record {
-  words = set memory a.address a.value;
-  served_is = rw is_kind refl;
-  as_long = length-set memory a.address a.value;
-  word = λ address within. rw is_kind (set_word memory a.address a.value address within);
-}
 
-length_served : (memory words : List ℕ) (a : Access) (k : AccessKind) → served memory a k ≡ Some words → length words ≡ length memory
-length_served memory words a kind.Load e =
-    ap length (sym (cond_some (eqb (get_or memory a.address 0) a.value) memory words e).1)
-length_served memory words a kind.Store e =
-    ap length (sym (same_Some (set memory a.address a.value) words e)) ∙ length-set memory a.address a.value
+length_served : (memory words : List ℕ) (a : Access) → served memory a ≡ Some words → length words ≡ length memory
+length_served memory words a e =
+    ap length (sym (cond_some (reads_right memory a) (cond (writes a.kind) (set memory a.address a.value) memory) words e).1) ∙ length_as memory a (writes a.kind)
+
+address_within_words : (words address : ℕ) (a : Access) → 0 < words → (address % words == a.address) ≡ true → a.address < words
+address_within_words words address a some test = let same : address % words ≡ a.address = grind (arith, nat_tests) in omega arith
 
 address_made : (words : ℕ) (program : List Instr) (ready after : CoreState) (a : Access) (n : Next) (k : AccessKind) → 0 < words → made words program ready a n k ≡ Some after → a.address < words
 address_made words program ready after a (next.Load rd address) kind.Load some e =
-    let test = (cond_some (eqb (address % words) a.address) (loaded program a.value ready) after e).0 in
-    let same : address % words ≡ a.address = grind (arith, nat_tests) in
-    omega arith
+    address_within_words words address a some (cond_some (address % words == a.address) (loaded program a.value ready) after e).0
 address_made words program ready after a (next.Load rd address) kind.Store some e = cc
+address_made words program ready after a (next.Load rd address) kind.Swap some e = cc
+address_made words program ready after a (next.Load rd address) kind.Add some e = cc
 address_made words program ready after a (next.Store address value) kind.Load some e = cc
 address_made words program ready after a (next.Store address value) kind.Store some e =
-    let test = (cond_some ((eqb (address % words) a.address) && (eqb value a.value)) (stored ready) after e).0 in
-    let there = (and_parts (eqb (address % words) a.address) (eqb value a.value) test).0 in
-    let same : address % words ≡ a.address = grind (arith, nat_tests) in
-    omega arith
+    let tests = (cond_some ((address % words == a.address) && (value == a.value)) (stored ready) after e).0 in
+    address_within_words words address a some (and_parts (address % words == a.address) (value == a.value) tests).0
+address_made words program ready after a (next.Store address value) kind.Swap some e = cc
+address_made words program ready after a (next.Store address value) kind.Add some e = cc
+address_made words program ready after a (next.Swap rd address value) kind.Load some e = cc
+address_made words program ready after a (next.Swap rd address value) kind.Store some e = cc
+address_made words program ready after a (next.Swap rd address value) kind.Swap some e =
+    let tests = (cond_some ((address % words == a.address) && (value == a.value)) (loaded program a.old ready) after e).0 in
+    address_within_words words address a some (and_parts (address % words == a.address) (value == a.value) tests).0
+address_made words program ready after a (next.Swap rd address value) kind.Add some e = cc
+address_made words program ready after a (next.Add rd address value) kind.Load some e = cc
+address_made words program ready after a (next.Add rd address value) kind.Store some e = cc
+address_made words program ready after a (next.Add rd address value) kind.Swap some e = cc
+address_made words program ready after a (next.Add rd address value) kind.Add some e =
+    let tests = (cond_some ((address % words == a.address) && (wrapped_sum a.old value == a.value)) (loaded program a.old ready) after e).0 in
+    address_within_words words address a some (and_parts (address % words == a.address) (wrapped_sum a.old value == a.value) tests).0
 address_made words program ready after a next.Register k some e = cc
 address_made words program ready after a next.Halted k some e = cc
 
@@ -140,7 +161,7 @@ parts words programs old new [] is_words e =
 parts words programs old new (a ∷ rest) is_words e =
     option_and_then_some (λ next. taken_all programs next rest) (taken programs old a) new (sym (taken_all_cons programs old a rest) ∙ e) (λ next one others.
     let s = sides programs old next a one in
-    let long = length_served old.memory next.memory a a.kind s.memory_side in
+    let long = length_served old.memory next.memory a s.memory_side in
     let behind = parts words programs next new rest (is_words ∙ sym long) others in
     record {
       tiles = (slice_get_within programs a.tile s.program s.its_program, behind.tiles);

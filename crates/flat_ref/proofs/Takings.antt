@@ -1,35 +1,40 @@
 -- What can be taken, as a relation.
-use Rattle.std.proofs.Common.{◌≡◌, ℕ, ◌-◌, ◌%◌, ◌⊎◌, ◌&&◌, eqb, leb, cond, Bool, true, false, List, Option, Some, None, option_and_then, length, slice_get, get_or, set, sym, ap, ◌∙◌, inl, inr, refl, arith}
+use Rattle.std.proofs.Common.{◌≡◌, ℕ, ◌-◌, ◌%◌, ◌⊎◌, ◌==◌, ◌&&◌, ◌||◌, not, if◌then◌else◌, eqb, leb, cond, Bool, true, false, List, Option, Some, None, option_and_then, length, slice_get, get_or, set, sym, ap, ◌∙◌, inl, inr, refl, arith}
 use Rattle.std.proofs.lemmas.Option.{same_Some, cond_some, option_and_then_some}
-use Rattle.std.proofs.lemmas.Bool.{and_parts, and_from}
+use Rattle.std.proofs.lemmas.Bool.{and_parts, and_from, eqb-true, eq-eqb}
 use Rattle.std.proofs.lemmas.Bool.Decides.{nat_tests}
 use Rattle.core_isa.specs.declared.instr.Instr.{Instr}
 use Rattle.core_isa.specs.declared.next.Next.{Next}
 use Rattle.core_isa.specs.declared.next.Next.TheVariants as next
-use Rattle.core_isa.specs.Core.{CoreState, DidMore, next_of, advanced, loaded, stored, with_result}
+use Rattle.core_isa.specs.Core.{CoreState, DidMore, next_of, advanced, loaded, stored, with_result, wrapped_sum}
 use Rattle.report_text.specs.declared.access.Access.{Access}
 use Rattle.report_text.specs.declared.access.AccessKind.{AccessKind}
 use Rattle.report_text.specs.declared.access.AccessKind.TheVariants as kind
+use Rattle.report_text.specs.Accesses.{reads, writes}
 use Rattle.flat_ref.specs.declared.flat.Flat.{Flat}
 use Rattle.flat_ref.specs.Taking.{flat_of, core_at, made, made_by, served, taken}
-use Rattle.flat_ref.specs.Order.{IsLoadOf, IsStoreOf, Takes}
+use Rattle.flat_ref.specs.Order.{IsLoadOf, IsStoreOf, IsSwapOf, IsAddOf, IsAccessOf, Takes}
 
 -- register instructions are counted
 abbrev pub Counted : Type 0
 Counted =
     (program : List Instr) (n : ℕ) (core new : CoreState) → advanced program n core ≡ Some new → DidMore n core new
 
--- a load's register receives its value
-abbrev pub Received : Type 0
-Received =
-    (program : List Instr) (core : CoreState) (rd address value : ℕ) → next_of program core ≡ next.Load rd address → loaded program value core ≡ with_result rd value core
+-- the register of a load, a swap and an add receives the word that was read
+pub record Received : Type 0 where
+  pub by_load : (program : List Instr) (core : CoreState) (rd address word : ℕ) → next_of program core ≡ next.Load rd address → loaded program word core ≡ with_result rd word core
+  pub by_swap : (program : List Instr) (core : CoreState) (rd address value word : ℕ) → next_of program core ≡ next.Swap rd address value → loaded program word core ≡ with_result rd word core
+  pub by_add : (program : List Instr) (core : CoreState) (rd address value word : ℕ) → next_of program core ≡ next.Add rd address value → loaded program word core ≡ with_result rd word core
 
-abbrev IsAccessOf : List Instr → CoreState → CoreState → List ℕ → List ℕ → Access → Type 0
-IsAccessOf program ready after old new a =
-    IsLoadOf program ready after old new a ⊎ IsStoreOf program ready after old new a
+-- what memory gives an access of this kind
+abbrev pub served_as : List ℕ → Access → AccessKind → Option (List ℕ)
+served_as memory a k =
+    if not (reads k) || (get_or memory a.address 0 == (if writes k then a.old else a.value))
+    then Some (if writes k then set memory a.address a.value else memory)
+    else None
 
 -- what was made and served is an access
-access_by : Received → (program : List Instr) (ready after : CoreState) (memory words : List ℕ) (a : Access) (n : Next) (k : AccessKind) → next_of program ready ≡ n → a.kind ≡ k → made (length memory) program ready a n k ≡ Some after → served memory a k ≡ Some words → IsAccessOf program ready after memory words a
+access_by : Received → (program : List Instr) (ready after : CoreState) (memory words : List ℕ) (a : Access) (n : Next) (k : AccessKind) → next_of program ready ≡ n → a.kind ≡ k → made (length memory) program ready a n k ≡ Some after → served_as memory a k ≡ Some words → IsAccessOf program ready after memory words a
 access_by received program ready after memory words a (next.Load rd address) kind.Load is_next is_kind core_side memory_side =
     let core = cond_some (eqb (address % length memory) a.address) (loaded program a.value ready) after core_side in
     let word = cond_some (eqb (get_or memory a.address 0) a.value) memory words memory_side in
@@ -40,7 +45,7 @@ access_by received program ready after memory words a (next.Load rd address) kin
       kind = is_kind;
       at = grind (arith, nat_tests, core.0);
       value = grind (arith, nat_tests, word.0);
-      core = sym core.1 ∙ received program ready rd address a.value is_next;
+      core = sym core.1 ∙ received.by_load program ready rd address a.value is_next;
       memory = sym word.1;
     })
 access_by received program ready after memory words a (next.Load rd address) kind.Store is_next is_kind core_side memory_side = cc
@@ -49,14 +54,55 @@ access_by received program ready after memory words a (next.Store address value)
     let core = cond_some ((eqb (address % length memory) a.address) && (eqb value a.value)) (stored ready) after core_side in
     let tests = and_parts (eqb (address % length memory) a.address) (eqb value a.value) core.0 in
     let same : value ≡ a.value = grind (arith, nat_tests) in
-    inr (record {
+    inr (inl (record {
       address = address;
       is_next = is_next ∙ ap (λ (v : ℕ). next.Store address v) same;
       kind = is_kind;
       at = grind (arith, nat_tests);
       core = sym core.1;
       memory = sym (same_Some _ _ memory_side);
-    })
+    }))
+access_by received program ready after memory words a (next.Swap rd address value) kind.Swap is_next is_kind core_side memory_side =
+    let core = cond_some ((eqb (address % length memory) a.address) && (eqb value a.value)) (loaded program a.old ready) after core_side in
+    let tests = and_parts (eqb (address % length memory) a.address) (eqb value a.value) core.0 in
+    let word = cond_some (eqb (get_or memory a.address 0) a.old) (set memory a.address a.value) words memory_side in
+    let same : value ≡ a.value = grind (arith, nat_tests) in
+    inr (inr (inl (record {
+      rd = rd;
+      address = address;
+      is_next = is_next ∙ ap (λ (v : ℕ). next.Swap rd address v) same;
+      kind = is_kind;
+      at = grind (arith, nat_tests);
+      before = grind (arith, nat_tests, word.0);
+      core = sym core.1 ∙ received.by_swap program ready rd address value a.old is_next;
+      memory = sym word.1;
+    })))
+access_by received program ready after memory words a (next.Add rd address value) kind.Add is_next is_kind core_side memory_side =
+    let core = cond_some ((eqb (address % length memory) a.address) && (eqb (wrapped_sum a.old value) a.value)) (loaded program a.old ready) after core_side in
+    let tests = and_parts (eqb (address % length memory) a.address) (eqb (wrapped_sum a.old value) a.value) core.0 in
+    let word = cond_some (eqb (get_or memory a.address 0) a.old) (set memory a.address a.value) words memory_side in
+    inr (inr (inr (record {
+      rd = rd;
+      address = address;
+      value = value;
+      is_next = is_next;
+      kind = is_kind;
+      at = grind (arith, nat_tests);
+      before = grind (arith, nat_tests, word.0);
+      sum = sym (eqb-true (wrapped_sum a.old value) a.value tests.1);
+      core = sym core.1 ∙ received.by_add program ready rd address value a.old is_next;
+      memory = sym word.1;
+    })))
+access_by received program ready after memory words a (next.Load rd address) kind.Swap is_next is_kind core_side memory_side = cc
+access_by received program ready after memory words a (next.Load rd address) kind.Add is_next is_kind core_side memory_side = cc
+access_by received program ready after memory words a (next.Store address value) kind.Swap is_next is_kind core_side memory_side = cc
+access_by received program ready after memory words a (next.Store address value) kind.Add is_next is_kind core_side memory_side = cc
+access_by received program ready after memory words a (next.Swap rd address value) kind.Load is_next is_kind core_side memory_side = cc
+access_by received program ready after memory words a (next.Swap rd address value) kind.Store is_next is_kind core_side memory_side = cc
+access_by received program ready after memory words a (next.Swap rd address value) kind.Add is_next is_kind core_side memory_side = cc
+access_by received program ready after memory words a (next.Add rd address value) kind.Load is_next is_kind core_side memory_side = cc
+access_by received program ready after memory words a (next.Add rd address value) kind.Store is_next is_kind core_side memory_side = cc
+access_by received program ready after memory words a (next.Add rd address value) kind.Swap is_next is_kind core_side memory_side = cc
 access_by received program ready after memory words a next.Register k is_next is_kind core_side memory_side = cc
 access_by received program ready after memory words a next.Halted k is_next is_kind core_side memory_side = cc
 
@@ -92,7 +138,7 @@ abbrev with_words : Flat → Access → CoreState → List ℕ → Option Flat
 with_words old a after words = Some (record { cores = set old.cores a.tile after; memory = words })
 
 abbrev with_core : Flat → Access → CoreState → Option Flat
-with_core old a after = option_and_then (with_words old a after) (served old.memory a a.kind)
+with_core old a after = option_and_then (with_words old a after) (served old.memory a)
 
 abbrev by_core : Flat → Access → List Instr → CoreState → Option Flat
 by_core old a program core =
@@ -109,7 +155,7 @@ pub record Sides (programs : List (List Instr)) (old new : Flat) (a : Access) : 
   pub its_program : slice_get programs a.tile ≡ Some program
   pub its_core : slice_get old.cores a.tile ≡ Some core
   pub core_side : made_by (length old.memory) program core a ≡ Some after
-  pub memory_side : served old.memory a a.kind ≡ Some new.memory
+  pub memory_side : served old.memory a ≡ Some new.memory
   pub cores : new.cores ≡ set old.cores a.tile after
 
 pub sides : (programs : List (List Instr)) (old new : Flat) (a : Access) → taken programs old a ≡ Some new → Sides programs old new a
@@ -118,7 +164,7 @@ sides programs old new a e =
     option_and_then_some (by_program old a) (slice_get programs a.tile) new e (λ program its_program e1.
     option_and_then_some (by_core old a program) (slice_get old.cores a.tile) new e1 (λ core its_core e2.
     option_and_then_some (with_core old a) (made_by (length old.memory) program core a) new e2 (λ after core_side e3.
-    option_and_then_some (with_words old a after) (served old.memory a a.kind) new e3 (λ words memory_side e4.
+    option_and_then_some (with_words old a after) (served old.memory a) new e3 (λ words memory_side e4.
     let is_new = same_Some (record { cores = set old.cores a.tile after; memory = words }) new e4 in
     record {
       program = program;
@@ -132,7 +178,7 @@ sides programs old new a e =
     }))))
 
 -- both sides together are taken
-pub taken_by_sides : (programs : List (List Instr)) (old : Flat) (a : Access) (program : List Instr) (core after : CoreState) (words : List ℕ) → slice_get programs a.tile ≡ Some program → slice_get old.cores a.tile ≡ Some core → made_by (length old.memory) program core a ≡ Some after → served old.memory a a.kind ≡ Some words → taken programs old a ≡ Some (flat_of (set old.cores a.tile after) words)
+pub taken_by_sides : (programs : List (List Instr)) (old : Flat) (a : Access) (program : List Instr) (core after : CoreState) (words : List ℕ) → slice_get programs a.tile ≡ Some program → slice_get old.cores a.tile ≡ Some core → made_by (length old.memory) program core a ≡ Some after → served old.memory a ≡ Some words → taken programs old a ≡ Some (flat_of (set old.cores a.tile after) words)
 unfolding taken
 taken_by_sides programs old a program core after words its_program its_core core_side memory_side =
     rw (its_program, its_core, core_side, memory_side) refl
@@ -161,13 +207,13 @@ takes counted received programs old new a e =
 -- the two sides of an access by the relation
 record Makes (program : List Instr) (ready after : CoreState) (old new : List ℕ) (a : Access) : Type 0 where
   core_side : made_next (length old) program a ready ≡ Some after
-  memory_side : served old a a.kind ≡ Some new
+  memory_side : served old a ≡ Some new
 
 makes_load : Received → (program : List Instr) (ready after : CoreState) (old new : List ℕ) (a : Access) → IsLoadOf program ready after old new a → Makes program ready after old new a
 makes_load received program ready after old new a l =
     let there : eqb (l.address % length old) a.address ≡ true = grind (arith, nat_tests, l.at) in
     let right : eqb (get_or old a.address 0) a.value ≡ true = grind (arith, nat_tests, l.value) in
-    let core = received program ready l.rd l.address a.value l.is_next ∙ sym l.core in
+    let core = received.by_load program ready l.rd l.address a.value l.is_next ∙ sym l.core in
     record {
       core_side = rw (l.is_next, l.kind, there) (ap (λ (x : CoreState). Some x) core);
       memory_side = rw (l.kind, right) (ap (λ (words : List ℕ). Some words) (sym l.memory));
@@ -183,9 +229,35 @@ makes_store program ready after old new a s =
       memory_side = rw s.kind (ap (λ (words : List ℕ). Some words) (sym s.memory));
     }
 
+makes_swap : Received → (program : List Instr) (ready after : CoreState) (old new : List ℕ) (a : Access) → IsSwapOf program ready after old new a → Makes program ready after old new a
+makes_swap received program ready after old new a s =
+    let there : eqb (s.address % length old) a.address ≡ true = grind (arith, nat_tests, s.at) in
+    let right : eqb a.value a.value ≡ true = grind (arith, nat_tests) in
+    let both = and_from _ _ there right in
+    let word : eqb (get_or old a.address 0) a.old ≡ true = grind (arith, nat_tests, s.before) in
+    let core = received.by_swap program ready s.rd s.address a.value a.old s.is_next ∙ sym s.core in
+    record {
+      core_side = rw (s.is_next, s.kind, both) (ap (λ (x : CoreState). Some x) core);
+      memory_side = rw (s.kind, word) (ap (λ (words : List ℕ). Some words) (sym s.memory));
+    }
+
+makes_add : Received → (program : List Instr) (ready after : CoreState) (old new : List ℕ) (a : Access) → IsAddOf program ready after old new a → Makes program ready after old new a
+makes_add received program ready after old new a s =
+    let there : eqb (s.address % length old) a.address ≡ true = grind (arith, nat_tests, s.at) in
+    let right : eqb (wrapped_sum a.old s.value) a.value ≡ true = eq-eqb (wrapped_sum a.old s.value) a.value (sym s.sum) in
+    let both = and_from _ _ there right in
+    let word : eqb (get_or old a.address 0) a.old ≡ true = grind (arith, nat_tests, s.before) in
+    let core = received.by_add program ready s.rd s.address s.value a.old s.is_next ∙ sym s.core in
+    record {
+      core_side = rw (s.is_next, s.kind, both) (ap (λ (x : CoreState). Some x) core);
+      memory_side = rw (s.kind, word) (ap (λ (words : List ℕ). Some words) (sym s.memory));
+    }
+
 makes : Received → (program : List Instr) (ready after : CoreState) (old new : List ℕ) (a : Access) → IsAccessOf program ready after old new a → Makes program ready after old new a
 makes received program ready after old new a (inl l) = makes_load received program ready after old new a l
-makes received program ready after old new a (inr s) = makes_store program ready after old new a s
+makes received program ready after old new a (inr (inl s)) = makes_store program ready after old new a s
+makes received program ready after old new a (inr (inr (inl s))) = makes_swap received program ready after old new a s
+makes received program ready after old new a (inr (inr (inr s))) = makes_add received program ready after old new a s
 
 -- an access by the relation is taken
 pub taken_from : Counted → Received → (programs : List (List Instr)) (old new : Flat) (a : Access) → Takes programs old new a → taken programs old a ≡ Some new

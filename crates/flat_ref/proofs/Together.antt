@@ -60,10 +60,10 @@ cores_after words programs old new a rest f others t program core is_program is_
     ]
 
 reads_after : (memory words : List ℕ) (a : Access) (rest : List Access) → ((address : ℕ) → get_or words address 0 ≡ last_stored address (get_or memory address 0) (a ∷ [])) → ReadsLast memory (a ∷ rest) → ReadsLast words rest
-reads_after memory words a rest word reads before behind b e is_load =
-    reads (a ∷ before) behind b (ap (λ (xs : List Access). a ∷ xs) e) is_load ∙ ap (λ (w : ℕ). last_stored b.address w before) (sym (word b.address))
+reads_after memory words a rest word reads before behind b e is_read =
+    reads (a ∷ before) behind b (ap (λ (xs : List Access). a ∷ xs) e) is_read ∙ ap (λ (w : ℕ). last_stored b.address w before) (sym (word b.address))
 
--- cores that make their own accesses, and loads that read what was stored last, are taken together
+-- accesses that each core makes alone, and that read what was written last, are taken together
 pub together : (words : ℕ) (programs : List (List Instr)) (old : Flat) (accesses : List Access) → words ≡ length old.memory → 0 < words → length old.cores ≡ length programs → AllByRecursion (λ a. a.tile < length programs) accesses → RunsAlone words programs old.cores accesses → ReadsLast old.memory accesses → Together words programs old accesses
 together words programs old [] is_words some many tiles alone reads = record {
   new = old;
@@ -74,7 +74,7 @@ together words programs old [] is_words some many tiles alone reads = record {
 together words programs old (a ∷ rest) is_words some many tiles alone reads =
     let f = first_of_all words programs old a rest many tiles.0 alone in
     let within = address_within words f.program f.core f.after a some f.makes in
-    let s = serves_by old.memory a a.kind refl (λ is_load. reads [] rest a refl is_load) in
+    let s = serves_by old.memory a (λ is_read. reads [] rest a refl is_read) in
     let next : Flat = flat_of (set old.cores a.tile f.after) s.words in
     let one = taken_by_sides programs old a f.program f.core f.after s.words f.its_program f.its_core (ap (λ (w : ℕ). made_by w f.program f.core a) (sym is_words) ∙ f.makes) s.served_is in
     let behind = together words programs next rest (is_words ∙ sym s.as_long) some (length-set old.cores a.tile f.after ∙ many) tiles.1 (alone_after words programs old a rest f alone) (reads_after old.memory s.words a rest (λ address. s.word address (omega (arith, within))) reads) in

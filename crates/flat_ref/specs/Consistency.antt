@@ -1,10 +1,11 @@
--- Sequential consistency by its parts: each core alone makes its own accesses, and loads read what was stored last.
-use Rattle.std.specs.Prelude.{◌≡◌, ℕ, ◌<◌, ◌==◌, List, ◌∷◌, ◌++◌, Option, Some, IsSome, All, filter, length, slice_get, slice_index}
+-- Sequential consistency by its parts: each core alone makes its own accesses, and reads the words that were
+-- written last.
+use Rattle.std.specs.Prelude.{◌≡◌, ℕ, true, ◌<◌, ◌==◌, List, ◌∷◌, ◌++◌, Option, Some, IsSome, All, filter, length, slice_get, slice_index}
 use Rattle.std.specs.List.{fold}
 use Rattle.core_isa.specs.declared.instr.Instr.{Instr}
 use Rattle.core_isa.specs.Core.{CoreState, new_core}
 use Rattle.report_text.specs.declared.access.Access.{Access}
-use Rattle.report_text.specs.declared.access.AccessKind.TheVariants.{Load}
+use Rattle.report_text.specs.Accesses.{reads, read_by}
 use Rattle.flat_ref.specs.Taking.{◌>>=◌, core_at, made_by}
 use Rattle.flat_ref.specs.Order.{last_stored}
 
@@ -16,16 +17,18 @@ accesses_of t accesses = filter (λ a. a.tile == t) accesses
 unfoldable pub made_all : ℕ → List Instr → CoreState → List Access → Option CoreState
 made_all words program core accesses = fold (λ found a. found >>= λ before. made_by words program before a) (Some core) accesses
 
--- the core alone: it makes these accesses, whose values its loads receive, and then gets to its number of steps
+-- the core alone: it makes these accesses, and receives the words that they read, and then gets to its number of steps
 abbrev pub run_alone : ℕ → List Instr → CoreState → List Access → ℕ → Option CoreState
 run_alone words program core accesses number = made_all words program core accesses >>= λ last. core_at number program last
 
--- each load has the value of the last store to its address before it, or else the word that was there at first
+-- each access that reads received the value of the last write to its address before it, or else the word that was
+-- there at first
 abbrev pub ReadsLast : List ℕ → List Access → Type 0
 ReadsLast memory accesses =
-    (before rest : List Access) (a : Access) → accesses ≡ before ++ a ∷ rest → a.kind ≡ Load → a.value ≡ last_stored a.address (slice_index memory a.address) before
+    (before rest : List Access) (a : Access) → accesses ≡ before ++ a ∷ rest → reads a.kind ≡ true → read_by a ≡ last_stored a.address (slice_index memory a.address) before
 
--- each core alone makes its own accesses and gets to its number of steps, and loads read what was stored last
+-- each core alone makes its own accesses and gets to its number of steps, and reads the words that were
+-- written last
 pub record IsConsistent (programs : List (List Instr)) (memory : List ℕ) (accesses : List Access) (steps : List ℕ) : Type 0 where
   pub numbers : length steps ≡ length programs
   pub tiles : All (λ a. a.tile < length programs) accesses

@@ -16,10 +16,10 @@ use Rattle.flat_ref.specs.Execution.{start, cores_at, executed_from, IsExecution
 
 -- tile, number, address, value
 abbrev pub ld : ℕ → ℕ → ℕ → ℕ → Access
-ld t n at v = record { tile = t; number = n; kind = Load; address = at; value = v; time = 0 }
+ld t n at v = record { tile = t; number = n; kind = Load; address = at; value = v; time = 0; old = 0 }
 
 abbrev pub st : ℕ → ℕ → ℕ → ℕ → Access
-st t n at v = record { tile = t; number = n; kind = Store; address = at; value = v; time = 0 }
+st t n at v = record { tile = t; number = n; kind = Store; address = at; value = v; time = 0; old = 0 }
 
 -- eight words, in two lines
 abbrev pub zeros : List ℕ

@@ -1,7 +1,7 @@
-ghost use Rattle.std.specs.Prelude.{◌≡◌, ◌↔◌, ℕ, ◌<◌, List, ◌∷◌, ◌++◌, Some, length, map, slice_index};
+ghost use Rattle.std.specs.Prelude.{◌≡◌, ◌↔◌, ℕ, true, ◌<◌, List, ◌∷◌, ◌++◌, Some, length, map, slice_index};
 ghost use Rattle.core_isa.specs.declared.instr.Instr.{Instr};
 ghost use Rattle.report_text.specs.declared.access.Access.{Access};
-ghost use Rattle.report_text.specs.declared.access.AccessKind.{AccessKind};
+ghost use Rattle.report_text.specs.Accesses.{reads, writes, read_by};
 ghost use Rattle.flat_ref.specs.declared.flat.Flat.{Flat};
 ghost use Rattle.flat_ref.specs.Taking.{taken, taken_all};
 ghost use Rattle.flat_ref.specs.Execution.{executed_from, executed, flat_memory, IsExecution};
@@ -19,17 +19,23 @@ pub fn order_laws()
         → taken_all programs flat (before ++ a ∷ (between ++ b ∷ rest)) ≡ Some after → a.tile ≡ b.tile
         → a.number < b.number }
 
-    // A load has the value of the last store to its address before it, or else the word that was there at first.
+    // An access that reads received the value of the last write to its address before it, or else the word that was
+    // there at first.
     ensures reads { (programs : List (List Instr)) (flat after : Flat) (before rest : List Access) (a : Access)
-        → 0 < length flat.memory → taken_all programs flat (before ++ a ∷ rest) ≡ Some after → a.kind ≡ AccessKind.Load
-        → a.value ≡ last_stored a.address (slice_index flat.memory a.address) before }
+        → 0 < length flat.memory → taken_all programs flat (before ++ a ∷ rest) ≡ Some after → reads a.kind ≡ true
+        → read_by a ≡ last_stored a.address (slice_index flat.memory a.address) before }
 
-    // Memory then holds what was last stored at each address.
+    // The value of one that writes is the word from then on.
+    ensures writes { (programs : List (List Instr)) (old new : Flat) (a : Access)
+        → 0 < length old.memory → taken programs old a ≡ Some new → writes a.kind ≡ true
+        → slice_index new.memory a.address ≡ a.value }
+
+    // Memory then holds what was last written at each address.
     ensures memory { (programs : List (List Instr)) (flat after : Flat) (accesses : List Access) (address : ℕ)
         → 0 < length flat.memory → taken_all programs flat accesses ≡ Some after
         → slice_index after.memory address ≡ last_stored address (slice_index flat.memory address) accesses }
 
-    // An execution is a list in which each core alone makes its own accesses and loads read what was stored last.
+    // An execution is a list in which each core alone makes its own accesses and reads what was written last.
     ensures parts { (programs : List (List Instr)) (memory steps : List ℕ) (accesses : List Access)
         → 0 < length memory
         → IsExecution programs memory accesses steps ↔ IsConsistent programs memory accesses steps }

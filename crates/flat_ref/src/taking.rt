@@ -38,9 +38,9 @@ fn take_by(program: &Program, core: &mut Core, memory: &mut [u32], access: &Acce
     requires limit { length memory.old ≤ 1024 }
     ensures { MatchBool result
         ((made_by (length memory.old) program.now core.old access.now ≡ Some core.new)
-        × (served memory.old access.now access.now.kind ≡ Some memory.new))
+        × (served memory.old access.now ≡ Some memory.new))
         ((made_by (length memory.old) program.now core.old access.now ≡ None)
-        ⊎ (served memory.old access.now access.now.kind ≡ None)) }
+        ⊎ (served memory.old access.now ≡ None)) }
 {
     reach(program, core, access.number) && perform(program, core, memory, access)
 }
@@ -67,9 +67,9 @@ fn perform(program: &Program, core: &mut Core, memory: &mut [u32], access: &Acce
     ensures { MatchBool result
         ((made (length memory.old) program.now core.old access.now (next_of program.now core.old) access.now.kind
         ≡ Some core.new)
-        × (served memory.old access.now access.now.kind ≡ Some memory.new))
+        × (served memory.old access.now ≡ Some memory.new))
         ((made (length memory.old) program.now core.old access.now (next_of program.now core.old) access.now.kind ≡ None)
-        ⊎ (served memory.old access.now access.now.kind ≡ None)) }
+        ⊎ (served memory.old access.now ≡ None)) }
 {
     let place = access.address as usize;
     match (core.next(program), access.kind) {
@@ -86,6 +86,18 @@ fn perform(program: &Program, core: &mut Core, memory: &mut [u32], access: &Acce
             }
             memory[place] = value;
             core.store_done(program);
+            true
+        }
+        (Next::Swap { address, value, .. }, AccessKind::Swap)
+        | (Next::Add { address, value, .. }, AccessKind::Add) => {
+            if address as usize % memory.len() != place
+                || memory[place] != access.old
+                || access.kind.word_after(value, access.old) != access.value
+            {
+                return false;
+            }
+            memory[place] = access.value;
+            core.both_done(program, access.old);
             true
         }
         _ => false,

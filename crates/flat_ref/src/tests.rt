@@ -15,6 +15,7 @@ const STORE: Access = Access {
     address: 2,
     value: 7,
     time: 1,
+    old: 0,
 };
 
 const LOAD: Access = Access {
@@ -24,6 +25,7 @@ const LOAD: Access = Access {
     address: 2,
     value: 7,
     time: 1,
+    old: 0,
 };
 
 // A tile, a line of memory, and a program that stores a word and loads it.

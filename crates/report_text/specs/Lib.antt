@@ -1,5 +1,6 @@
 pub mod Events
 pub mod Entry
+pub mod Accesses
 pub mod Lines
 pub mod Rows
 pub mod Report

@@ -22,7 +22,7 @@ run_report =
       requests = record { source = 0; number = 0; kind = GetM; line = 0 } ∷ [];
       seen = 1 ∷ [];
       steps = 3 ∷ [];
-      accesses = record { tile = 0; number = 1; kind = Store; address = 2; value = 7; time = 1 } ∷ record { tile = 0; number = 2; kind = Load; address = 2; value = 7; time = 1 } ∷ [];
+      accesses = record { tile = 0; number = 1; kind = Store; address = 2; value = 7; time = 1; old = 0 } ∷ record { tile = 0; number = 2; kind = Load; address = 2; value = 7; time = 1; old = 0 } ∷ [];
       memory = 0 ∷ 0 ∷ 7 ∷ 0 ∷ [];
       journal = run_events;
       windows = 1;

@@ -67,6 +67,9 @@ pub(crate) fn access_line(access: &Access) -> Line
     line.push_number(u64::from(access.address));
     line.push_number(u64::from(access.value));
     line.push_number(access.time);
+    if access.kind.reads() && access.kind.writes() {
+        line.push_number(u64::from(access.old));
+    }
     line
 }
 
@@ -76,6 +79,8 @@ fn access_kind_word(kind: AccessKind) -> &'static str
     match kind {
         AccessKind::Load => "ld",
         AccessKind::Store => "st",
+        AccessKind::Swap => "sw",
+        AccessKind::Add => "fa",
     }
 }
 

@@ -47,6 +47,7 @@ fn run_report(alloc: Global) -> Result<Report, AllocError>
         address: 2,
         value: 7,
         time: 1,
+        old: 0,
     };
     let load = Access {
         number: 2,
