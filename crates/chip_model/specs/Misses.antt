@@ -4,7 +4,7 @@ use Rattle.std.specs.Prelude.{ℕ, ◌==◌, Bool, true, false, not, List, [], �
 use Rattle.mesh_gen.specs.declared.kind.Kind.{Kind}
 use Rattle.mesh_gen.specs.declared.kind.Kind.TheVariants.{GetS, GetM, PutM}
 use Rattle.report_text.specs.declared.access.AccessKind.{AccessKind}
-use Rattle.report_text.specs.declared.access.AccessKind.TheVariants.{Load, Store}
+use Rattle.report_text.specs.declared.access.AccessKind.TheVariants.{Load, Store, Swap, Add}
 use Rattle.chip_model.specs.declared.pending.Pending.{Pending}
 use Rattle.chip_model.specs.declared.waiting.Waiting.{Waiting}
 use Rattle.chip_model.specs.Partial.{when}
@@ -56,23 +56,12 @@ ends_in_getm [] = false
 ends_in_getm (last ∷ []) = is_getm last.kind
 ends_in_getm (first ∷ next ∷ rest) = ends_in_getm (next ∷ rest)
 
-abbrev pub reads : AccessKind → Bool
-reads Load = true
-reads Store = false
-
-abbrev pub writes : AccessKind → Bool
-writes Store = true
-writes Load = false
-
--- the word that an access leaves, by its value and the word before
-abbrev pub word_after : AccessKind → ℕ → ℕ → ℕ
-word_after Load value word = word
-word_after Store value word = value
-
 -- what an access that misses asks for
 abbrev pub request_for : AccessKind → Kind
 request_for Load = GetS
 request_for Store = GetM
+request_for Swap = GetM
+request_for Add = GetM
 
 -- a demand that was not sent
 abbrev pub new_demand : Kind → ℕ → Pending → Demand

@@ -12,7 +12,7 @@ use Rattle.chip_model.specs.declared.line_state.State.{State}
 use Rattle.chip_model.specs.declared.line_state.State.TheVariants.{M, O, S}
 use Rattle.chip_model.specs.Chip.{Chip, home, line_of}
 use Rattle.chip_model.specs.Cache.{Cache, Held, empty_cache, lookup, has_room, installed, without_line, without_shared, lowest_for}
-use Rattle.chip_model.specs.Misses.{no_misses, is_written_back, writes, request_for, new_demand, new_back, marked_sent}
+use Rattle.chip_model.specs.Misses.{no_misses, is_written_back, request_for, new_demand, new_back, marked_sent}
 use Rattle.chip_model.specs.Snoop.{CacheSide, with_cache, with_demand, with_back, written_by, done_by, snooped, data_arrived}
 use Rattle.chip_model.specs.Records.{LineRecord, Records, opening_record, answered, back_arrived}
 use Rattle.chip_model.specs.Partial.{when}

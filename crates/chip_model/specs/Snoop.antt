@@ -6,6 +6,7 @@ use Rattle.mesh_gen.specs.declared.request.Request.{Request}
 use Rattle.mesh_gen.specs.declared.msg.Msg.{Msg}
 use Rattle.mesh_gen.specs.declared.msg_kind.MsgKind.TheVariants.{Data, Back}
 use Rattle.report_text.specs.declared.access.AccessKind.{AccessKind}
+use Rattle.report_text.specs.Accesses.{is_read_modify_write, word_after}
 use Rattle.chip_model.specs.declared.done.Done.{Done}
 use Rattle.chip_model.specs.declared.line_state.State.{State}
 use Rattle.chip_model.specs.declared.line_state.State.TheVariants.{M, O, S}
@@ -13,7 +14,7 @@ use Rattle.chip_model.specs.declared.pending.Pending.{Pending}
 use Rattle.chip_model.specs.declared.waiting.Waiting.{Waiting}
 use Rattle.chip_model.specs.Chip.{Chip, home, word_of}
 use Rattle.chip_model.specs.Cache.{Cache, Held, is_shared, lookup, installed, without_line}
-use Rattle.chip_model.specs.Misses.{Misses, Demand, WriteBack, is_getm, ends_in_getm, reads, writes, word_after}
+use Rattle.chip_model.specs.Misses.{Misses, Demand, WriteBack, is_getm, ends_in_getm}
 
 -- the cache with its misses
 pub record CacheSide : Type 0 where
@@ -140,7 +141,7 @@ written_by access words =
 
 -- the word before, where an access both reads and writes
 abbrev pub old_word : AccessKind → ℕ → ℕ
-old_word kind word = if reads kind && writes kind then word else 0
+old_word kind word = if is_read_modify_write kind then word else 0
 
 -- what an access did at a time, by the words that were there
 abbrev pub done_by : Pending → ℕ → List ℕ → Done

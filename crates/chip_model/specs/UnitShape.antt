@@ -1,9 +1,9 @@
 -- What holds of a unit beside its node: its program and its core, and for in-order cores what a demand waits for and in
 -- which order accesses were performed.
 use Rattle.std.specs.Prelude.{◌≡◌, ℕ, ◌<◌, ◌≤◌, false, [], length, Some, slice_get}
-use Rattle.core_isa.specs.Core.{Effect, Becomes, Loads, Stores, Halts, effect_of, instr_at}
+use Rattle.core_isa.specs.Core.{Effect, Becomes, Loads, Stores, Swaps, Adds, Halts, effect_of, instr_at}
 use Rattle.report_text.specs.declared.access.Access.{Access}
-use Rattle.report_text.specs.declared.access.AccessKind.TheVariants.{Load, Store}
+use Rattle.report_text.specs.declared.access.AccessKind.TheVariants.{Load, Store, Swap, Add}
 use Rattle.doc_text.specs.Doc.{Doc}
 use Rattle.chip_model.specs.declared.pending.Pending.{Pending}
 use Rattle.chip_model.specs.Chip.{Chip, address_in}
@@ -21,6 +21,8 @@ pub record UnitFits (d : Doc) (t : ℕ) (unit : UnitState) : Type 0 where
 abbrev pub IsAccess : Chip → Pending → Effect → Type 0
 IsAccess chip pending (Loads register sum) = (pending.kind ≡ Load) × (pending.address ≡ address_in chip sum)
 IsAccess chip pending (Stores sum value) = (pending.kind ≡ Store) × (pending.address ≡ address_in chip sum) × (pending.value ≡ value)
+IsAccess chip pending (Swaps register sum value) = (pending.kind ≡ Swap) × (pending.address ≡ address_in chip sum) × (pending.value ≡ value)
+IsAccess chip pending (Adds register sum value) = (pending.kind ≡ Add) × (pending.address ≡ address_in chip sum) × (pending.value ≡ value)
 IsAccess chip pending (Becomes core) = ⊥
 IsAccess chip pending Halts = ⊥
 

@@ -1,13 +1,14 @@
 -- A unit: a core over a node. How it steps, and what it makes of deliveries and data, is its behaviour; that of in-order
 -- cores stands here.
-use Rattle.std.specs.Prelude.{ℕ, Bool, true, false, not, ◌||◌, List, [], Option, Some, None, is_some, option_map, unwrap_or}
+use Rattle.std.specs.Prelude.{ℕ, Bool, true, false, not, ◌||◌, List, [], Option, Some, None, is_some, option_map, unwrap_or, if◌then◌else◌}
 use Rattle.mesh_gen.specs.declared.request.Request.{Request}
 use Rattle.mesh_gen.specs.declared.msg.Msg.{Msg}
 use Rattle.core_isa.specs.declared.instr.Instr.{Instr}
-use Rattle.core_isa.specs.Core.{CoreState, new_core, Effect, Becomes, Loads, Stores, Halts, effect_of, instr_at, loaded, stored}
+use Rattle.core_isa.specs.Core.{CoreState, new_core, Effect, Becomes, Loads, Stores, Swaps, Adds, Halts, effect_of, instr_at, loaded, stored}
 use Rattle.report_text.specs.declared.access.Access.{Access}
 use Rattle.report_text.specs.declared.access.AccessKind.{AccessKind}
-use Rattle.report_text.specs.declared.access.AccessKind.TheVariants.{Load, Store}
+use Rattle.report_text.specs.declared.access.AccessKind.TheVariants.{Load, Store, Swap, Add}
+use Rattle.report_text.specs.Accesses.{reads, read_by}
 use Rattle.chip_model.specs.declared.done.Done.{Done}
 use Rattle.chip_model.specs.declared.pending.Pending.{Pending}
 use Rattle.chip_model.specs.Chip.{Chip, address_in}
@@ -50,10 +51,9 @@ pub record Behaviour : Type 0 where
 
 -- In-order cores.
 
--- the core after the access for which it waited
-abbrev pub core_after : List Instr → AccessKind → ℕ → CoreState → CoreState
-core_after program Load value core = loaded program value core
-core_after program Store value core = stored core
+-- the core after an access: one that reads gives it the word that was there
+abbrev pub core_after : List Instr → Access → CoreState → CoreState
+core_after program access core = if reads access.kind then loaded program (read_by access) core else stored core
 
 -- the access of a unit's core that its node performed
 abbrev pub access_of : UnitState → Done → Access
@@ -64,13 +64,15 @@ access_of unit done = record {
   address = done.address;
   value = done.value;
   time = done.time;
+  old = done.old;
 }
 
 -- the unit with what its node became, and where an access was performed with the core after it
 abbrev pub performed : UnitState → Performed → Acted
 performed unit (node, None) = (record unit { node = node }, None)
 performed unit (node, Some done) =
-    (record unit { node = node; core = core_after unit.program done.kind done.value unit.core }, Some (access_of unit done))
+    let access = access_of unit done in
+    (record unit { node = node; core = core_after unit.program access unit.core }, Some access)
 
 abbrev pub access_tried : UnitState → AccessKind → ℕ → ℕ → Option Acted
 access_tried unit kind sum value =
@@ -81,6 +83,8 @@ abbrev pub executed : UnitState → Effect → Option Acted
 executed unit (Becomes core) = Some (record unit { core = core }, None)
 executed unit (Loads register sum) = access_tried unit Load sum 0
 executed unit (Stores sum value) = access_tried unit Store sum value
+executed unit (Swaps register sum value) = access_tried unit Swap sum value
+executed unit (Adds register sum value) = access_tried unit Add sum value
 executed unit Halts = Some (record unit { halted = true }, None)
 
 -- a core event: none where the core has halted or waits for words, where the access would miss on the line that is

@@ -2,9 +2,9 @@
 use Rattle.std.specs.Prelude.{ℕ, ◌==◌, Bool, ◌&&◌, ◌||◌, List, [], ◌∷◌, set, nat_lt, nat_le, if◌then◌else◌}
 use Rattle.std.specs.List.{fold, filter}
 use Rattle.report_text.specs.declared.access.Access.{Access}
+use Rattle.report_text.specs.Accesses.{writes}
 use Rattle.doc_text.specs.Doc.{Doc}
 use Rattle.chip_model.specs.Chip.{line_of, word_of}
-use Rattle.chip_model.specs.Misses.{writes}
 use Rattle.chip_model.specs.Node.{words_at}
 use Rattle.chip_model.specs.ChipState.{ChipState}
 
