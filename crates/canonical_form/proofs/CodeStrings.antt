@@ -7,7 +7,7 @@ use Rattle.std.specs.Char.{is_ascii, is_ascii_digit}
 use Rattle.std.specs.Fmt.{decimal}
 use Rattle.std.specs.List.{list_all}
 use Rattle.core_isa.specs.declared.instr.Instr.{Instr}
-use Rattle.core_isa.specs.declared.instr.Instr.TheVariants.{Li, Add, Sub, Addi, Ld, St, Beq, Bne, Jmp, Tid, Halt}
+use Rattle.core_isa.specs.declared.instr.Instr.TheVariants.{Li, Add, Sub, Addi, Ld, St, Swap, Fadd, Beq, Bne, Jmp, Tid, Halt}
 use Rattle.core_isa.specs.Opcodes.{Shape, Register, Number, Target, form_of, opcode_of, operands_of}
 use Rattle.core_isa.specs.Printing.{operand_text, operand_texts, text_of, program_text}
 use Rattle.toml_parser.specs.Strings.{starts_string, quoted, body}
@@ -44,6 +44,8 @@ word-code (Sub rd ra rb) = refl
 word-code (Addi rd ra n) = refl
 word-code (Ld rd ra n) = refl
 word-code (St rs ra n) = refl
+word-code (Swap rd ra n) = refl
+word-code (Fadd rd ra n) = refl
 word-code (Beq ra rb target) = refl
 word-code (Bne ra rb target) = refl
 word-code (Jmp target) = refl

@@ -1,7 +1,7 @@
 -- Cores, and what the definitions give of each.
 use Rattle.std.specs.Prelude.{◌≡◌, ℕ, List, [], ◌∷◌, Option, Some, None, option_map, replicate, refl}
 use Rattle.core_isa.specs.declared.instr.Instr.{Instr}
-use Rattle.core_isa.specs.declared.instr.Instr.TheVariants.{Li, Sub, Addi, Ld, St, Beq, Bne, Jmp, Tid, Halt}
+use Rattle.core_isa.specs.declared.instr.Instr.TheVariants.{Li, Sub, Addi, Ld, St, Swap, Fadd, Beq, Bne, Jmp, Tid, Halt}
 use Rattle.core_isa.specs.declared.next.Next.{Next}
 use Rattle.core_isa.specs.declared.next.Next.TheVariants as next
 use Rattle.core_isa.specs.Core.{new_core, next_of, stepped, advanced, loaded}
@@ -46,6 +46,15 @@ no_further : advanced (Jmp 2 ∷ Li 1 1 ∷ Halt ∷ Li 1 1 ∷ []) 2 (new_core 
 unfolding advanced stepped
 no_further = refl
 
+-- a swap and an add have their register's value
+swaps : next_after (Li 1 7 ∷ Swap 1 0 2 ∷ []) 1 ≡ Some (next.Swap 1 2 7)
+unfolding advanced stepped next_of
+swaps = refl
+
+adds : next_after (Li 1 7 ∷ Fadd 1 1 4294967295 ∷ []) 1 ≡ Some (next.Add 1 6 7)
+unfolding advanced stepped next_of
+adds = refl
+
 -- a load is no register instruction; once it is done its register has the value
 not_register : advanced (Ld 7 0 0 ∷ []) 1 (new_core 3) ≡ None
 unfolding advanced stepped
@@ -54,3 +63,12 @@ not_register = refl
 receives : loaded (Ld 7 0 0 ∷ []) 9 (new_core 3) ≡ record { tile = 3; registers = 0 ∷ 0 ∷ 0 ∷ 0 ∷ 0 ∷ 0 ∷ 0 ∷ 9 ∷ []; place = 1; steps = 1 }
 unfolding loaded
 receives = refl
+
+-- nor is a swap or an add, whose register receives the old word
+not_swapped : advanced (Swap 7 0 0 ∷ []) 1 (new_core 3) ≡ None
+unfolding advanced stepped
+not_swapped = refl
+
+takes_the_old_word : loaded (Fadd 7 0 0 ∷ []) 9 (new_core 3) ≡ record { tile = 3; registers = 0 ∷ 0 ∷ 0 ∷ 0 ∷ 0 ∷ 0 ∷ 0 ∷ 9 ∷ []; place = 1; steps = 1 }
+unfolding loaded
+takes_the_old_word = refl

@@ -4,7 +4,7 @@ use Rattle.std.specs.Fmt.{digits}
 use Rattle.core_isa.specs.declared.fault.AsmKind.{AsmKind}
 use Rattle.core_isa.specs.declared.instr.Instr.{Instr}
 use Rattle.core_isa.specs.declared.fault.AsmKind.TheVariants as kind
-use Rattle.core_isa.specs.declared.instr.Instr.TheVariants.{Li, Addi, Ld, Beq, Bne, Jmp, Halt}
+use Rattle.core_isa.specs.declared.instr.Instr.TheVariants.{Li, Addi, Ld, Swap, Fadd, Beq, Bne, Jmp, Halt}
 use Rattle.core_isa.specs.Lines.{words_of, is_white}
 use Rattle.core_isa.specs.Opcodes.{opcode_named}
 use Rattle.core_isa.specs.Printing.{program_text}
@@ -36,6 +36,14 @@ white = refl
 labels : Assembles (codes "wait: ld r1 r0 4" ++ lf ++ codes "beq r1 r0 wait" ++ lf ++ codes "jmp @005" ++ lf ++ codes "jmp end" ++ lf ++ codes "other:" ++ lf ++ codes "bne r1 r0 other" ++ lf ++ codes "end:") (Ld 1 0 4 ∷ Beq 1 0 0 ∷ Jmp 5 ∷ Jmp 5 ∷ Bne 1 0 4 ∷ [])
 unfolding assembled first_fault fault_of instr_of words_of is_white opcode_named
 labels = refl
+
+exchanges : Assembles (codes "swap r1 r0 4" ++ lf ++ codes "fadd r2 r7 01") (Swap 1 0 4 ∷ Fadd 2 7 1 ∷ [])
+unfolding assembled first_fault fault_of instr_of words_of is_white opcode_named
+exchanges = refl
+
+swap_of_a_register : Faults (codes "swap r1 r0 r2") 1 kind.Number
+unfolding assembled first_fault fault_of instr_of words_of is_white opcode_named
+swap_of_a_register = refl
 
 past_the_end : Faults (codes "jmp @3" ++ lf ++ codes "halt") 1 kind.Label
 unfolding assembled first_fault fault_of instr_of words_of is_white opcode_named
@@ -70,6 +78,6 @@ two_labels : Faults (codes "jmp @2" ++ lf ++ codes "a: b: halt" ++ lf ++ codes "
 unfolding assembled first_fault fault_of instr_of words_of is_white opcode_named
 two_labels = refl
 
-printed : program_text (Li 7 4294967295 ∷ Bne 1 2 0 ∷ Halt ∷ []) ≡ codes "li r7 4294967295" ++ lf ++ codes "bne r1 r2 @0" ++ lf ++ codes "halt" ++ lf
+printed : program_text (Li 7 4294967295 ∷ Swap 1 0 4 ∷ Fadd 2 3 0 ∷ Bne 1 2 0 ∷ Halt ∷ []) ≡ codes "li r7 4294967295" ++ lf ++ codes "swap r1 r0 4" ++ lf ++ codes "fadd r2 r3 0" ++ lf ++ codes "bne r1 r2 @0" ++ lf ++ codes "halt" ++ lf
 unfolding digits
 printed = refl

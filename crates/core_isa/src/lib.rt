@@ -28,6 +28,3 @@ pub use printing::print_instr;
 pub use program::Program;
 pub use steps::core_laws;
 pub use tile_core::Core;
-
-#[cfg(test)]
-mod tests;

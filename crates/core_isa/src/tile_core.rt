@@ -102,7 +102,7 @@ impl Core {
     }
 
     /// The load that is next is done: its register has the value.
-    #[tactic(auto, unfolding(crate::specs::Core::loaded))]
+    #[tactic(auto, unfolding(crate::specs::Core::loaded, crate::specs::Core::next_of))]
     pub fn load_done(&mut self, program: &Program, value: u32)
         requires next { IsTrue (is_load (next_of program.now self.old)) }
         requires steps { self.old.steps + 1 < 2 ^ 63 }
@@ -126,7 +126,7 @@ impl Core {
     }
 
     /// The swap or add that is next is done: its register has the old value of the word.
-    #[tactic(auto, unfolding(crate::specs::Core::loaded))]
+    #[tactic(auto, unfolding(crate::specs::Core::loaded, crate::specs::Core::next_of))]
     pub fn both_done(&mut self, program: &Program, old: u32)
         requires next { IsTrue (is_read_modify_write (next_of program.now self.old)) }
         requires steps { self.old.steps + 1 < 2 ^ 63 }

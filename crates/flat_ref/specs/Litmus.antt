@@ -3,11 +3,11 @@
 use Rattle.std.specs.Prelude.{List, [], ◌∷◌, refl}
 use Rattle.std.proofs.Common.{lit≤}
 use Rattle.core_isa.specs.declared.instr.Instr.{Instr}
-use Rattle.core_isa.specs.declared.instr.Instr.TheVariants.{Li, Ld, St, Beq}
+use Rattle.core_isa.specs.declared.instr.Instr.TheVariants.{Li, Ld, St, Swap, Fadd, Beq}
 use Rattle.core_isa.specs.Core.{next_of, stepped, advanced, loaded}
 use Rattle.flat_ref.specs.Taking.{core_at, made_by, taken, taken_all}
 use Rattle.flat_ref.specs.Execution.{cores_at, executed_from}
-use Rattle.flat_ref.specs.Rows.{ld, st, Runs, Refuses}
+use Rattle.flat_ref.specs.Rows.{ld, st, sw, fa, Runs, Refuses}
 
 -- store buffering: not both loads miss the other's store
 abbrev store_buffering : List (List Instr)
@@ -75,3 +75,27 @@ agreed = refl
 disagreed : Refuses independent (st 0 1 0 1 ∷ ld 2 0 0 1 ∷ ld 2 1 4 0 ∷ st 1 1 4 1 ∷ ld 3 0 4 1 ∷ ld 3 1 0 0 ∷ []) (2 ∷ 2 ∷ 2 ∷ 2 ∷ []) 5
 unfolding executed_from cores_at taken_all taken made_by core_at advanced stepped next_of loaded
 disagreed = record { within = lit≤ tt; before = refl; here = λ _. refl; refused = refl }
+
+-- counting: of two adds to one word none is lost
+abbrev counting : List (List Instr)
+counting = (Li 1 1 ∷ Fadd 1 0 0 ∷ []) ∷ (Li 1 1 ∷ Fadd 1 0 0 ∷ []) ∷ []
+
+both_counted : Runs counting (fa 1 1 0 1 0 ∷ fa 0 1 0 2 1 ∷ []) (2 ∷ 2 ∷ [])
+unfolding executed_from cores_at taken_all taken made_by core_at advanced stepped next_of loaded
+both_counted = refl
+
+one_lost : Refuses counting (fa 1 1 0 1 0 ∷ fa 0 1 0 1 0 ∷ []) (2 ∷ 2 ∷ []) 1
+unfolding executed_from cores_at taken_all taken made_by core_at advanced stepped next_of loaded
+one_lost = record { within = lit≤ tt; before = refl; here = λ _. refl; refused = refl }
+
+-- a lock: not both swaps find it open
+abbrev locking : List (List Instr)
+locking = (Li 1 1 ∷ Swap 1 0 0 ∷ []) ∷ (Li 1 1 ∷ Swap 1 0 0 ∷ []) ∷ []
+
+one_waits : Runs locking (sw 0 1 0 1 0 ∷ sw 1 1 0 1 1 ∷ []) (2 ∷ 2 ∷ [])
+unfolding executed_from cores_at taken_all taken made_by core_at advanced stepped next_of loaded
+one_waits = refl
+
+both_enter : Refuses locking (sw 0 1 0 1 0 ∷ sw 1 1 0 1 0 ∷ []) (2 ∷ 2 ∷ []) 1
+unfolding executed_from cores_at taken_all taken made_by core_at advanced stepped next_of loaded
+both_enter = record { within = lit≤ tt; before = refl; here = λ _. refl; refused = refl }

@@ -5,21 +5,28 @@ use Rattle.std.proofs.Common.{lit≤}
 use Rattle.std.proofs.Math.Path.{subst₂}
 use Rattle.std.proofs.lemmas.Option.{same_Some, none-some}
 use Rattle.core_isa.specs.declared.instr.Instr.{Instr}
-use Rattle.core_isa.specs.declared.instr.Instr.TheVariants.{Li, Addi, Ld, St, Halt}
+use Rattle.core_isa.specs.declared.instr.Instr.TheVariants.{Li, Addi, Ld, St, Swap, Fadd, Halt}
 use Rattle.core_isa.specs.declared.next.Next.TheVariants.{Halted}
 use Rattle.core_isa.specs.Core.{CoreState, next_of, stepped, advanced, loaded}
 use Rattle.report_text.specs.declared.access.Access.{Access}
-use Rattle.report_text.specs.declared.access.AccessKind.TheVariants.{Load, Store}
+use Rattle.report_text.specs.declared.access.AccessKind.TheVariants as kind
 use Rattle.flat_ref.specs.declared.flat.Flat.{Flat}
 use Rattle.flat_ref.specs.Taking.{core_at, made_by, taken, taken_all}
 use Rattle.flat_ref.specs.Execution.{start, cores_at, executed_from, IsExecution, IsFirstBad, AreHalted, IsWholeExecution}
 
 -- tile, number, address, value
 abbrev pub ld : ℕ → ℕ → ℕ → ℕ → Access
-ld t n at v = record { tile = t; number = n; kind = Load; address = at; value = v; time = 0; old = 0 }
+ld t n at v = record { tile = t; number = n; kind = kind.Load; address = at; value = v; time = 0; old = 0 }
 
 abbrev pub st : ℕ → ℕ → ℕ → ℕ → Access
-st t n at v = record { tile = t; number = n; kind = Store; address = at; value = v; time = 0; old = 0 }
+st t n at v = record { tile = t; number = n; kind = kind.Store; address = at; value = v; time = 0; old = 0 }
+
+-- tile, number, address, value, and the old word
+abbrev pub sw : ℕ → ℕ → ℕ → ℕ → ℕ → Access
+sw t n at v old = record { tile = t; number = n; kind = kind.Swap; address = at; value = v; time = 0; old = old }
+
+abbrev pub fa : ℕ → ℕ → ℕ → ℕ → ℕ → Access
+fa t n at v old = record { tile = t; number = n; kind = kind.Add; address = at; value = v; time = 0; old = old }
 
 -- eight words, in two lines
 abbrev pub zeros : List ℕ
@@ -99,3 +106,52 @@ wraps = refl
 not_wrapped : Refuses wrapping (st 0 2 14 0 ∷ []) (4 ∷ []) 0
 unfolding executed_from cores_at taken_all taken made_by core_at advanced stepped next_of loaded
 not_wrapped = record { within = lit≤ tt; before = refl; here = λ _. refl; refused = refl }
+
+-- an add to a word, and a swap that puts the old word back
+abbrev exchanging : List (List Instr)
+exchanging = (Li 1 3 ∷ Fadd 1 0 0 ∷ Swap 1 0 0 ∷ Halt ∷ []) ∷ []
+
+abbrev ten : List ℕ
+ten = 10 ∷ 0 ∷ 0 ∷ 0 ∷ []
+
+abbrev exchanging_after : Flat
+exchanging_after = record { cores = record { tile = 0; registers = 0 ∷ 13 ∷ 0 ∷ 0 ∷ 0 ∷ 0 ∷ 0 ∷ 0 ∷ []; place = 3; steps = 3 } ∷ []; memory = ten }
+
+exchanging_whole : IsWholeExecution exchanging ten (fa 0 1 0 13 10 ∷ sw 0 2 0 10 13 ∷ []) (3 ∷ [])
+unfolding executed_from cores_at taken_all taken made_by core_at advanced stepped next_of loaded
+exchanging_whole = record { after = exchanging_after; executed = refl; halted = one_halted _ _ refl }
+
+-- the first bad one among accesses of that program is at this position
+abbrev IsRefused : List Access → ℕ → Type 0
+IsRefused accesses at = IsFirstBad exchanging (start exchanging ten) accesses (3 ∷ []) at
+
+-- an old word that is not the word: what it becomes, and what the register had
+add_of_the_new_word : IsRefused (fa 0 1 0 13 13 ∷ sw 0 2 0 10 13 ∷ []) 0
+unfolding executed_from cores_at taken_all taken made_by core_at advanced stepped next_of loaded
+add_of_the_new_word = record { within = lit≤ tt; before = refl; here = λ _. refl; refused = refl }
+
+add_of_the_register : IsRefused (fa 0 1 0 6 3 ∷ sw 0 2 0 10 13 ∷ []) 0
+unfolding executed_from cores_at taken_all taken made_by core_at advanced stepped next_of loaded
+add_of_the_register = record { within = lit≤ tt; before = refl; here = λ _. refl; refused = refl }
+
+swap_of_the_new_word : IsRefused (fa 0 1 0 13 10 ∷ sw 0 2 0 10 10 ∷ []) 1
+unfolding executed_from cores_at taken_all taken made_by core_at advanced stepped next_of loaded
+swap_of_the_new_word = record { within = lit≤ tt; before = refl; here = λ _. refl; refused = refl }
+
+-- a swap whose register had kept its value, an add that leaves another sum, and each for the other
+swap_of_the_register_before : IsRefused (fa 0 1 0 13 10 ∷ sw 0 2 0 3 13 ∷ []) 1
+unfolding executed_from cores_at taken_all taken made_by core_at advanced stepped next_of loaded
+swap_of_the_register_before = record { within = lit≤ tt; before = refl; here = λ _. refl; refused = refl }
+
+add_of_another_sum : IsRefused (fa 0 1 0 12 10 ∷ []) 0
+unfolding executed_from cores_at taken_all taken made_by core_at advanced stepped next_of loaded
+add_of_another_sum = record { within = lit≤ tt; before = refl; here = λ _. refl; refused = refl }
+
+swap_for_an_add : IsRefused (sw 0 1 0 3 10 ∷ []) 0
+unfolding executed_from cores_at taken_all taken made_by core_at advanced stepped next_of loaded
+swap_for_an_add = record { within = lit≤ tt; before = refl; here = λ _. refl; refused = refl }
+
+-- sums wrap
+adds_wrapped : IsExecution ((Li 1 4294967295 ∷ Fadd 1 0 0 ∷ []) ∷ []) ten (fa 0 1 0 9 10 ∷ []) (2 ∷ [])
+unfolding executed_from cores_at taken_all taken made_by core_at advanced stepped next_of loaded
+adds_wrapped = refl

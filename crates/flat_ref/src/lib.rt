@@ -12,6 +12,3 @@ pub use checking::check;
 pub use ending::CheckEnd;
 pub use flat::{Cores, Flat};
 pub use laws::order_laws;
-
-#[cfg(test)]
-mod tests;

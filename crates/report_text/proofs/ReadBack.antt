@@ -1,5 +1,5 @@
 -- The lines of a report, read again: they tell its journal, and nothing else.
-use Rattle.std.proofs.Common.{◌≡◌, ◌↔◌, ℕ, ◌+◌, true, false, List, [], ◌∷◌, ◌++◌, length, map, All, Some, refl, sym, ap, subst, ◌∙◌, append_assoc}
+use Rattle.std.proofs.Common.{◌≡◌, ◌↔◌, ℕ, ◌+◌, if◌then◌else◌, Bool, true, false, List, [], ◌∷◌, ◌++◌, length, map, All, Some, refl, sym, ap, subst, ◌∙◌, append_assoc}
 use Rattle.std.specs.Prelude.{codes, decimal}
 use Rattle.std.specs.List.{slice_split, AllByRecursion}
 use Rattle.std.proofs.lemmas.List.{append-nil}
@@ -9,11 +9,12 @@ use Rattle.mesh_gen.specs.declared.kind.Kind.TheVariants.{GetS, GetM, PutM}
 use Rattle.mesh_gen.specs.declared.request.Request.{Request}
 use Rattle.report_text.specs.declared.access.Access.{Access}
 use Rattle.report_text.specs.declared.access.AccessKind.{AccessKind}
-use Rattle.report_text.specs.declared.access.AccessKind.TheVariants.{Load, Store}
+use Rattle.report_text.specs.declared.access.AccessKind.TheVariants.{Load, Store, Swap, Add}
 use Rattle.report_text.specs.declared.event.Event.{Event}
 use Rattle.report_text.specs.declared.finish.Finish.{Finish}
 use Rattle.report_text.specs.declared.finish.Finish.TheVariants.{Finished, Budget}
 use Rattle.report_text.specs.declared.report.Report.{Report}
+use Rattle.report_text.specs.Accesses.{is_read_modify_write}
 use Rattle.report_text.specs.Events.{event_words, IsWithin}
 use Rattle.report_text.specs.Lines.{is_line_feed, text_of, without_empty_end, lines_of, line_of}
 use Rattle.report_text.specs.Reading.{Tells, is_passed}
@@ -79,6 +80,12 @@ kind_word-plain PutM = plain-from_test (kind_word PutM) refl
 access_kind_word-plain : (k : AccessKind) → IsPlain (access_kind_word k)
 access_kind_word-plain Load = plain-from_test (access_kind_word Load) refl
 access_kind_word-plain Store = plain-from_test (access_kind_word Store) refl
+access_kind_word-plain Swap = plain-from_test (access_kind_word Swap) refl
+access_kind_word-plain Add = plain-from_test (access_kind_word Add) refl
+
+old_words-plain : (old : ℕ) (shown : Bool) → ArePlain (if shown then decimal old ∷ [] else [])
+old_words-plain old true = (decimal-plain old, tt)
+old_words-plain old false = tt
 
 request_rows-read : (place : ℕ) (requests : List Request) → IsRead (request_rows place requests) []
 request_rows-read place [] = IsRead-nothing
@@ -96,7 +103,7 @@ access_rows-read : (accesses : List Access) → IsRead (access_rows accesses) []
 access_rows-read [] = IsRead-nothing
 access_rows-read (a ∷ accesses) =
     row (access_words a) (access_rows accesses) []
-    (plain-from_test (codes "a") refl, (decimal-plain a.tile, (decimal-plain a.number, (access_kind_word-plain a.kind, (decimal-plain a.address, (decimal-plain a.value, (decimal-plain a.time, tt))))))) refl (access_rows-read accesses)
+    (plain-from_test (codes "a") refl, (decimal-plain a.tile, (decimal-plain a.number, (access_kind_word-plain a.kind, (decimal-plain a.address, (decimal-plain a.value, (decimal-plain a.time, old_words-plain a.old (is_read_modify_write a.kind)))))))) refl (access_rows-read accesses)
 
 decimals-plain : (words : List ℕ) → ArePlain (map decimal words)
 decimals-plain [] = tt

@@ -16,7 +16,7 @@ abbrev pub request_at : List Request → ℕ → Request
 request_at requests place = get_or requests place (record { source = 0; number = 0; kind = GetS; line = 0 })
 
 abbrev pub access_at : List Access → ℕ → Access
-access_at accesses place = get_or accesses place (record { tile = 0; number = 0; kind = Load; address = 0; value = 0; time = 0 })
+access_at accesses place = get_or accesses place (record { tile = 0; number = 0; kind = Load; address = 0; value = 0; time = 0; old = 0 })
 
 pub request_rows-drop : (requests : List Request) (place : ℕ) → place < length requests → request_rows place (drop place requests) ≡ line_of (request_words place (request_at requests place)) ∷ request_rows (place + 1) (drop (place + 1) requests)
 request_rows-drop requests place lt = ap (request_rows place) (drop_more requests place (record { source = 0; number = 0; kind = GetS; line = 0 }) lt)
@@ -27,7 +27,7 @@ tile_rows-drop seen steps tile same lt =
     ap (λ (xs : List ℕ). tile_rows tile xs (drop tile steps)) (drop_more seen tile 0 lt) ∙ ap (λ (xs : List ℕ). tile_rows tile (get_or seen tile 0 ∷ drop (tile + 1) seen) xs) (drop_more steps tile 0 (omega arith))
 
 pub access_rows-drop : (accesses : List Access) (i : ℕ) → i < length accesses → access_rows (drop i accesses) ≡ line_of (access_words (access_at accesses i)) ∷ access_rows (drop (i + 1) accesses)
-access_rows-drop accesses i lt = ap access_rows (drop_more accesses i (record { tile = 0; number = 0; kind = Load; address = 0; value = 0; time = 0 }) lt)
+access_rows-drop accesses i lt = ap access_rows (drop_more accesses i (record { tile = 0; number = 0; kind = Load; address = 0; value = 0; time = 0; old = 0 }) lt)
 
 pub event_rows-drop : (events : List Event) (i : ℕ) → i < length events → event_rows (drop i events) ≡ event_line (get_or events i Tick) ∷ event_rows (drop (i + 1) events)
 event_rows-drop events i lt = ap event_rows (drop_more events i Tick lt)

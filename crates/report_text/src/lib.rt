@@ -25,6 +25,3 @@ pub use laws::journal_is_read_back;
 pub use reading::read_events;
 pub use report::{Accesses, Journal, Report};
 pub use writing::write_report;
-
-#[cfg(test)]
-mod tests;

@@ -1,17 +1,11 @@
-use super::*;
+//! Texts of programs, both ways.
+use core_isa::{AsmEnd, AsmFault, AsmKind, Instr, Program, assemble, print_instr};
 use outside_io::MemSink;
 use std::alloc::{AllocError, Global};
 use std::test::Fail;
 
 // A text, the line of its first fault, and the kind.
-const FAULTS: [(&str, u64, AsmKind); 38] = [
-    // each kind
-    ("mul r1 r2 r3", 1, AsmKind::Word),
-    ("li r8 1", 1, AsmKind::Register),
-    ("li r1 4294967296", 1, AsmKind::Number),
-    ("a:\nhalt\na:", 3, AsmKind::Label),
-    ("jmp nowhere", 1, AsmKind::Label),
-    ("add r1 r2", 1, AsmKind::Count),
+const FAULTS: [(&str, u64, AsmKind); 33] = [
     // what is no label, no register, no number and no place
     (":", 1, AsmKind::Word),
     ("a: b: halt", 1, AsmKind::Word),
@@ -22,12 +16,13 @@ const FAULTS: [(&str, u64, AsmKind); 38] = [
     ("tid r00", 1, AsmKind::Register),
     ("li r0 +1", 1, AsmKind::Number),
     ("li r0 -1", 1, AsmKind::Number),
+    ("swap r1 r0 r2", 1, AsmKind::Number),
+    ("fadd r1 r0", 1, AsmKind::Count),
     (
         "li r0 1000000000000000000000000000000000000000",
         1,
         AsmKind::Number,
     ),
-    ("jmp @3\nhalt", 1, AsmKind::Label),
     ("jmp @", 1, AsmKind::Label),
     (
         "jmp @1000000000000000000000000000000000000000",
@@ -116,7 +111,7 @@ fn a_program_goes_into_its_lines_and_back(rt: HostRuntime) -> Result<(), Fail> {
     let alloc = rt.alloc();
     assert_eq!(rt; assemble(alloc, "")?.instrs().len(), 0);
     let text =
-        "_a1: # the first\n\tli r7 004294967295\r\nadd r1 r2 r3#x\n\nsub  r4 r5 r6\naddi r0 r1 0000000000000000000000000000000000000012\nB: ld r1 r0 4\nst r1 r0 8\nbeq r1 r2 B\nbne r1 r2 end\njmp @011\ntid r1\njmp _a1\nend:\nhalt\nlast:";
+        "_a1: # the first\n\tli r7 004294967295\r\nadd r1 r2 r3#x\n\nsub  r4 r5 r6\naddi r0 r1 0000000000000000000000000000000000000012\nB: ld r1 r0 4\nst r1 r0 8\nswap r1 r0 9\nfadd r2 r1 0\nbeq r1 r2 B\nbne r1 r2 end\njmp @013\ntid r1\njmp _a1\nend:\nhalt\nlast:";
     let expected = [
         Instr::Li {
             rd: 7,
@@ -139,6 +134,8 @@ fn a_program_goes_into_its_lines_and_back(rt: HostRuntime) -> Result<(), Fail> {
         },
         Instr::Ld { rd: 1, ra: 0, n: 4 },
         Instr::St { rs: 1, ra: 0, n: 8 },
+        Instr::Swap { rd: 1, ra: 0, n: 9 },
+        Instr::Fadd { rd: 2, ra: 1, n: 0 },
         Instr::Beq {
             ra: 1,
             rb: 2,
@@ -147,9 +144,9 @@ fn a_program_goes_into_its_lines_and_back(rt: HostRuntime) -> Result<(), Fail> {
         Instr::Bne {
             ra: 1,
             rb: 2,
-            target: 11,
+            target: 13,
         },
-        Instr::Jmp { target: 11 },
+        Instr::Jmp { target: 13 },
         Instr::Tid { rd: 1 },
         Instr::Jmp { target: 0 },
         Instr::Halt,
@@ -163,7 +160,7 @@ fn a_program_goes_into_its_lines_and_back(rt: HostRuntime) -> Result<(), Fail> {
         assert_eq!(rt; print_instr(instr, &mut sink), Ok(()));
     }
     let printed =
-        b"li r7 4294967295\nadd r1 r2 r3\nsub r4 r5 r6\naddi r0 r1 12\nld r1 r0 4\nst r1 r0 8\nbeq r1 r2 @4\nbne r1 r2 @11\njmp @11\ntid r1\njmp @0\nhalt\n";
+        b"li r7 4294967295\nadd r1 r2 r3\nsub r4 r5 r6\naddi r0 r1 12\nld r1 r0 4\nst r1 r0 8\nswap r1 r0 9\nfadd r2 r1 0\nbeq r1 r2 @4\nbne r1 r2 @13\njmp @13\ntid r1\njmp @0\nhalt\n";
     assert_eq!(rt; sink.held(), printed.as_slice());
     Ok(())
 }
