@@ -6,6 +6,7 @@ use Rattle.mesh_gen.specs.declared.msg.Msg.{Msg}
 use Rattle.mesh_gen.specs.declared.msg_kind.MsgKind.{MsgKind}
 use Rattle.mesh_gen.specs.declared.msg_kind.MsgKind.TheVariants.{Data, Back}
 use Rattle.order_tracker.specs.Order.{upwards}
+use Rattle.report_text.specs.Accesses.{writes}
 use Rattle.chip_model.specs.declared.done.Done.{Done}
 use Rattle.chip_model.specs.declared.pending.Pending.{Pending}
 use Rattle.chip_model.specs.declared.line_state.State.{State}

@@ -1,12 +1,12 @@
 //! A demand that is ordered and has its words completes.
-ghost use Rattle.std.specs.Prelude.{◌≡◌, ◌+◌, ◌^◌, ◌<◌, ◌≤◌, ◌++◌, IsTrue, None, length, set, slice_index, if◌then◌else◌};
+ghost use Rattle.std.specs.Prelude.{◌≡◌, ◌+◌, ◌^◌, ◌<◌, ◌≤◌, ◌++◌, Some, length, if◌then◌else◌};
 ghost use Rattle.chip_model.specs.Chip.{Chip, word_of};
 ghost use Rattle.chip_model.specs.Cache.{installed};
 ghost use Rattle.chip_model.specs.Misses.{Demand};
-ghost use Rattle.chip_model.specs.Snoop.{kept_after_store, completed_load, completed_store, data_to_all};
+ghost use Rattle.chip_model.specs.Snoop.{written_by, done_by, old_word, kept_after_store, completed_load, completed_store, data_to_all};
 ghost use Rattle.chip_model.specs.NodeShape.{SideFits};
 ghost use Rattle.line_cache.specs.Sets.{HasSets, Fits, copy_of};
-ghost use Rattle.miss_table.specs.Table.{was_sent, list_of};
+ghost use Rattle.miss_table.specs.Table.{Holds, IsSentDemand, list_of};
 ghost use Rattle.snoop_core.specs.ChipSides.{left_by, completion};
 
 use crate::snooper::Snooper;
@@ -14,7 +14,6 @@ use chip_model::{Done, Pending, State};
 use forward_list::{ForwardList, OutQueue, QUEUE_PLACES};
 use line_cache::LineCache;
 use mesh_gen::{Kind, Words};
-use miss_table::Look;
 use report_text::AccessKind;
 
 // The place of a word in its line.
@@ -25,22 +24,37 @@ fn word_of(address: u32) -> usize
     (address % 4) as usize
 }
 
-/// The word at an address, of its line's words.
-pub(crate) fn loaded(words: Words, address: u32) -> u32
-    ensures { result ≡ slice_index words (word_of address) }
+/// The words of a line after an access.
+pub(crate) fn written(mut words: Words, access: Pending) -> Words
+    ensures { result ≡ written_by access words }
 {
-    words[word_of(address)]
-}
-
-/// The words of a line after a store.
-pub(crate) fn stored(mut words: Words, address: u32, value: u32) -> Words
-    ensures { result ≡ set words (word_of address) value }
-{
-    words[word_of(address)] = value;
+    let place = word_of(access.address);
+    words[place] = access.kind.word_after(access.value, words[place]);
     words
 }
 
-// What stays in the cache of the words that a store wrote, when these tiles waited for them.
+// The word before, of an access that both reads and writes.
+fn old_word(kind: AccessKind, word: u32) -> u32
+    ensures { result ≡ old_word kind word }
+{
+    if kind.reads() && kind.writes() { word } else { 0 }
+}
+
+/// What an access did at a time, by the words that were there.
+pub(crate) fn performed(access: Pending, time: u64, words: Words) -> Done
+    ensures { result ≡ done_by access time words }
+{
+    let word = words[word_of(access.address)];
+    Done {
+        kind: access.kind,
+        address: access.address,
+        value: access.kind.word_after(access.value, word),
+        time,
+        old: old_word(access.kind, word),
+    }
+}
+
+// What stays in the cache of the words that a write left, when these tiles waited for them.
 fn keep_stored(cache: &mut LineCache, line: u16, words: Words, list: &ForwardList)
     requires { Fits cache.old line }
     ensures kept { (chip : Chip) → HasSets chip cache.old
@@ -69,7 +83,7 @@ fn keep_loaded(cache: &mut LineCache, line: u16, words: Words, once: bool)
 }
 
 impl Snooper {
-    // The store changes its word, and all that wait get the words after it.
+    // The write changes its word, and all that wait get the words after it.
     fn complete_store(
         &mut self,
         line: u16,
@@ -78,32 +92,21 @@ impl Snooper {
         words: Words,
         out: &mut OutQueue,
     ) -> Done
-        requires sent { IsTrue (was_sent self.old.side.misses) }
-        requires alone { self.old.side.misses.back ≡ None }
+        requires sent { Holds IsSentDemand self.old.side.misses.demand }
         requires fits { Fits self.old.side.cache line }
         requires place { place + 1 < 2 ^ 64 }
         requires room { length out.old + length (list_of self.old.side.misses.demand) ≤ QUEUE_PLACES }
         ensures side { (demand : Demand) → self.old.side.misses.demand ≡ Some demand → demand.line ≡ line → demand.pending ≡ pending
             → self.new ≡ left_by (completed_store self.old.chip demand place words self.old.side) self.old }
         ensures sent { (demand : Demand) → self.old.side.misses.demand ≡ Some demand
-            → out.new ≡ out.old ++ data_to_all line (set words (word_of pending.address) pending.value) demand.list }
-        ensures done { result ≡ record {
-          kind = AccessKind.Store;
-          address = pending.address;
-          value = pending.value;
-          time = place + 1;
-        } }
+            → out.new ≡ out.old ++ data_to_all line (written_by pending words) demand.list }
+        ensures done { result ≡ done_by pending (place + 1) words }
     {
-        let words = stored(words, pending.address, pending.value);
-        let mut list = self.misses.finish();
-        keep_stored(&mut self.cache, line, words, &list);
-        list.drain_with(line, words, out);
-        Done {
-            kind: AccessKind::Store,
-            address: pending.address,
-            value: pending.value,
-            time: place + 1,
-        }
+        let after = written(words, pending);
+        let mut list = self.misses.finish_demand();
+        keep_stored(&mut self.cache, line, after, &list);
+        list.drain_with(line, after, out);
+        performed(pending, place + 1, words)
     }
 
     // The load takes its word.
@@ -115,32 +118,21 @@ impl Snooper {
         place: u64,
         words: Words,
     ) -> Done
-        requires sent { IsTrue (was_sent self.old.side.misses) }
-        requires alone { self.old.side.misses.back ≡ None }
+        requires sent { Holds IsSentDemand self.old.side.misses.demand }
         requires fits { Fits self.old.side.cache line }
         requires place { place + 1 < 2 ^ 64 }
         ensures side { (demand : Demand) → self.old.side.misses.demand ≡ Some demand → demand.line ≡ line → demand.once ≡ once
             → self.new ≡ left_by (completed_load self.old.chip demand place words self.old.side) self.old }
-        ensures done { result ≡ record {
-          kind = AccessKind.Load;
-          address = pending.address;
-          value = slice_index words (word_of pending.address);
-          time = place + 1;
-        } }
+        ensures done { result ≡ done_by pending (place + 1) words }
     {
-        let _ = self.misses.finish();
+        let _ = self.misses.finish_demand();
         keep_loaded(&mut self.cache, line, words, once);
-        Done {
-            kind: AccessKind::Load,
-            address: pending.address,
-            value: loaded(words, pending.address),
-            time: place + 1,
-        }
+        performed(pending, place + 1, words)
     }
 
     // The demand, which is ordered at this place, completes with these words.
     pub(crate) fn complete(&mut self, place: u64, words: Words, out: &mut OutQueue) -> Option<Done>
-        requires sent { IsTrue (was_sent self.old.side.misses) }
+        requires sent { Holds IsSentDemand self.old.side.misses.demand }
         requires side { SideFits self.old.chip self.old.side }
         requires place { place + 1 < 2 ^ 64 }
         requires room { length (out.old ++ (completion place words self.old).sends) ≤ QUEUE_PLACES }
@@ -148,20 +140,17 @@ impl Snooper {
         ensures sent { out.new ≡ out.old ++ (completion place words self.old).sends }
         ensures done { result ≡ (completion place words self.old).done }
     {
-        match self.look() {
-            Look::Demand {
-                kind,
-                line,
-                pending,
-                once,
-                ..
-            } => match kind {
-                Kind::GetM => Some(self.complete_store(line, pending, place, words, out)),
-                Kind::GetS | Kind::PutM => {
-                    Some(self.complete_load(line, pending, once, place, words))
+        match self.demand() {
+            Some(demand) => {
+                let (line, pending) = (demand.line, demand.pending);
+                match demand.kind {
+                    Kind::GetM => Some(self.complete_store(line, pending, place, words, out)),
+                    Kind::GetS | Kind::PutM => {
+                        Some(self.complete_load(line, pending, demand.once, place, words))
+                    }
                 }
-            },
-            Look::WriteBack { .. } | Look::Empty => None,
+            }
+            None => None,
         }
     }
 }

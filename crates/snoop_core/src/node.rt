@@ -2,8 +2,9 @@ ghost use Rattle.std.specs.Prelude.{◌≡◌, ◌≢◌, ◌+◌, ◌*◌, ◌^
 ghost use Rattle.chip_model.specs.Chip.{chip_of_mesh, tile_count, home};
 ghost use Rattle.chip_model.specs.Cache.{lookup};
 ghost use Rattle.chip_model.specs.Misses.{wanted};
+ghost use Rattle.chip_model.specs.Snoop.{done_by};
 ghost use Rattle.chip_model.specs.Records.{LineRecord};
-ghost use Rattle.chip_model.specs.Node.{opening_node, request_delivered, message_arrived, request_sent, message_sent, has_entry, accessed};
+ghost use Rattle.chip_model.specs.Node.{opening_node, request_delivered, message_arrived, request_sent, message_sent, has_entry, waits_for_any, accessed};
 ghost use Rattle.chip_model.specs.Ownership.{owns, is_tile, owner_after};
 ghost use Rattle.line_cache.specs.Sets.{copy_of};
 ghost use Rattle.mem_ctrl.specs.Waits.{TakesRequest};
@@ -14,7 +15,7 @@ ghost use Rattle.snoop_core.specs.Outcomes.{performed};
 
 use crate::Outcome;
 use crate::access::Plan;
-use crate::completion::{loaded, stored};
+use crate::completion::{performed as performed_at, written};
 use crate::snooper::Snooper;
 use chip_model::{Done, Owner, Pending, State};
 use forward_list::{LIST_PLACES, OutQueue, QUEUE_PLACES};
@@ -76,17 +77,17 @@ impl Node {
         })
     }
 
-    /// Whether the node waits for something.
+    /// Whether an access of the core waits for its words.
     pub fn has_entry(&self) -> bool
         ensures { result ≡ has_entry self.now }
     {
-        self.snooper.has_entry()
+        self.snooper.has_demand()
     }
 
-    /// Whether an access is possible now. What a store would write does not matter.
+    /// Whether an access is possible now. What a write would write does not matter.
     pub fn can_access(&self, kind: AccessKind, address: u32, _value: u32) -> bool
         requires { address < 4 * self.now.chip.lines }
-        ensures { (value : ℕ) → result ≡ is_some (accessed kind address value self.now) }
+        ensures { (value : ℕ) → result ≡ is_some (accessed (record { kind = kind; address = address; value = value }) self.now) }
     {
         match self.plan(kind, self.snooper.line_of(address)) {
             Plan::Refuse => false,
@@ -98,8 +99,8 @@ impl Node {
         }
     }
 
-    /// An access of the core. It is not enabled where the node waits for something, or would have to give a line back
-    /// while other words to give back are still to be sent.
+    /// An access of the core. It is not enabled where another one waits for its words, where it would miss on the line
+    /// that is written back, or where a write-back would have to begin while one stands or its words are still to be sent.
     pub fn access(
         &mut self,
         kind: AccessKind,
@@ -107,8 +108,9 @@ impl Node {
         value: u32,
     ) -> Result<Outcome, NotEnabled>
         requires { address < 4 * self.old.chip.lines }
-        ensures ok { IfOk result (λ outcome. accessed kind address value self.old ≡ Some (self.new, performed outcome)) }
-        ensures err { OnErr result (accessed kind address value self.old ≡ None) }
+        ensures ok { IfOk result (λ outcome.
+            accessed (record { kind = kind; address = address; value = value }) self.old ≡ Some (self.new, performed outcome)) }
+        ensures err { OnErr result (accessed (record { kind = kind; address = address; value = value }) self.old ≡ None) }
         ensures kept { OnErr result (self.new ≡ self.old) }
         ensures owners { (line : ℕ) → owns self.new.chip self.new.side line ≡ owns self.old.chip self.old.side line }
     {
@@ -120,10 +122,10 @@ impl Node {
         };
         match self.plan(kind, line) {
             Plan::Refuse => Err(NotEnabled),
-            Plan::HitLoad(words) => Ok(self.hit(AccessKind::Load, address, loaded(words, address))),
+            Plan::HitLoad(words) => Ok(self.hit(pending, words)),
             Plan::HitStore(words) => {
-                self.snooper.write(line, stored(words, address, value));
-                Ok(self.hit(AccessKind::Store, address, value))
+                self.snooper.write(line, written(words, pending));
+                Ok(self.hit(pending, words))
             }
             Plan::Miss => {
                 self.snooper.start(line, pending);
@@ -141,19 +143,14 @@ impl Node {
         }
     }
 
-    // An access that is performed now.
-    fn hit(&self, kind: AccessKind, address: u32, value: u32) -> Outcome
-        ensures { result ≡ Outcome.Hit (record { kind = kind; address = address; value = value; time = self.now.delivered }) }
+    // An access that is performed now, where these words were there.
+    fn hit(&self, access: Pending, words: Words) -> Outcome
+        ensures { result ≡ Outcome.Hit (done_by access self.now.delivered words) }
     {
-        Outcome::Hit(Done {
-            kind,
-            address,
-            value,
-            time: self.delivered,
-        })
+        Outcome::Hit(performed_at(access, self.delivered, words))
     }
 
-    /// The request that is still to be sent.
+    /// The request that is sent next: the write-back's before the demand's.
     pub fn wanted(&self) -> Option<(Kind, u16)>
         ensures { result ≡ wanted self.now.side.misses }
     {
@@ -169,7 +166,7 @@ impl Node {
         self.snooper.mark_sent();
     }
 
-    /// The next request of the order is delivered: first to the cache, then to the controller. It answers the access that
+    /// The next request of the order is delivered: first to the cache, then to the controller. It returns the access that
     /// is performed by that.
     pub fn on_request(&mut self, q: Request) -> Option<Done>
         requires source { q.source < tile_count self.old.chip }
@@ -193,8 +190,8 @@ impl Node {
         done
     }
 
-    /// A message comes: words for the demand, or words that come back to the controller. It answers the access that is
-    /// performed by that.
+    /// A message comes: words for the demand, or words that are written back to the controller. It returns the access
+    /// that is performed by that.
     pub fn on_data(&mut self, msg: Msg) -> Option<Done>
         requires line { msg.line < self.old.chip.lines }
         requires awaited { DataFits self.old.side msg }
@@ -245,10 +242,10 @@ impl Node {
 
     /// Whether the node waits for nothing and has nothing to send.
     pub fn idle(&self) -> bool
-        ensures idle { IsTrue result ↔ ((has_entry self.now ≡ false) × (self.now.out ≡ [])) }
+        ensures idle { IsTrue result ↔ ((waits_for_any self.now ≡ false) × (self.now.out ≡ [])) }
         ensures sound { IsSound self.now }
     {
-        !self.snooper.has_entry() && self.out.front().is_none()
+        !self.snooper.has_demand() && !self.snooper.has_back() && self.out.front().is_none()
     }
 
     /// The owner of a line, its words in memory, and whether these are the last ones. None where the line's home is

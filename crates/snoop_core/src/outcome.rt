@@ -5,7 +5,7 @@ use chip_model::Done;
 pub enum Outcome {
     /// It was performed at once.
     Hit(Done),
-    /// The node waits: for the words of the access, or to give another line back, after which the access has to be tried
+    /// The node waits for the words of the access, or begins to write another line back, and the access has to be tried
     /// again.
     Started,
 }

@@ -11,7 +11,6 @@ use crate::snooper::Snooper;
 use chip_model::{Done, State};
 use forward_list::{LIST_PLACES, OutQueue, QUEUE_PLACES};
 use mesh_gen::{Kind, Msg, MsgKind, Request, Words};
-use miss_table::Look;
 
 impl Snooper {
     // The words of a copy in O.
@@ -25,24 +24,19 @@ impl Snooper {
         }
     }
 
-    // The words that are here for the demand: those that came early, and else, for a store, those of a copy in O.
+    // The words that are here for the demand: those that came early, and else, for a write, those of a copy in O.
     fn words_here(&self) -> Option<Words>
         ensures { result ≡ words_for self.now.side.misses.demand self.now }
     {
-        match self.look() {
-            Look::Demand {
-                kind,
-                line,
-                early,
-                ..
-            } => match early {
+        match self.demand() {
+            Some(demand) => match demand.early {
                 Some(words) => Some(words),
-                None => match kind {
-                    Kind::GetM => self.owned_words(line),
+                None => match demand.kind {
+                    Kind::GetM => self.owned_words(demand.line),
                     Kind::GetS | Kind::PutM => None,
                 },
             },
-            Look::WriteBack { .. } | Look::Empty => None,
+            None => None,
         }
     }
 
@@ -73,20 +67,14 @@ impl Snooper {
         ensures side { self.new ≡ left_by (own_put_of self.old) self.old }
         ensures sent { out.new ≡ out.old ++ (own_put_of self.old).sends }
     {
-        if let Look::WriteBack {
-            line,
-            words,
-            live,
-            ..
-        } = self.look()
-        {
-            let _ = self.misses.finish();
-            if live {
+        if let Some(back) = self.back() {
+            self.misses.finish_back();
+            if back.live {
                 out.push(Msg {
-                    to: self.mesh.home(line),
+                    to: self.mesh.home(back.line),
                     kind: MsgKind::Back,
-                    line,
-                    words,
+                    line: back.line,
+                    words: back.words,
                 });
             }
         }
@@ -135,15 +123,15 @@ impl Snooper {
         ensures sent { out.new ≡ out.old ++ (data_arrived self.old.chip self.old.side words).sends }
         ensures done { result ≡ (data_arrived self.old.chip self.old.side words).done }
     {
-        match self.look() {
-            Look::Demand { ordered, .. } => match ordered {
+        match self.demand() {
+            Some(demand) => match demand.ordered {
                 Some(place) => self.complete(place, words, out),
                 None => {
                     self.misses.put_early(words);
                     None
                 }
             },
-            Look::WriteBack { .. } | Look::Empty => None,
+            None => None,
         }
     }
 }

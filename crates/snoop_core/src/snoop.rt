@@ -1,10 +1,9 @@
 //! What a node has for a line, and what another tile's request does by that.
-ghost use Rattle.std.specs.Prelude.{◌≡◌, ◌≢◌, ◌<◌, ◌≤◌, ◌++◌, ◌∷◌, [], length};
+ghost use Rattle.std.specs.Prelude.{◌≡◌, ◌≢◌, ◌<◌, ◌≤◌, ◌++◌, ◌∷◌, [], length, option_map};
 ghost use Rattle.chip_model.specs.Misses.{Demand, Misses, ends_in_getm};
 ghost use Rattle.chip_model.specs.Snoop.{holding_demand, holding_unowned, live_for, ordered_for, holding, data_to, OpenWrite};
 ghost use Rattle.chip_model.specs.NodeShape.{SideFits};
-ghost use Rattle.miss_table.specs.Table.{HasOneAtMost};
-ghost use Rattle.miss_table.specs.Looks.{look_of};
+ghost use Rattle.miss_table.specs.Looks.{demand_look, back_look};
 ghost use Rattle.snoop_core.specs.ChipSides.{left_by, met_by};
 ghost use Rattle.snoop_core.specs.Holdings.{told};
 
@@ -12,7 +11,7 @@ use crate::snooper::Snooper;
 use chip_model::State;
 use forward_list::{LIST_PLACES, OutQueue, QUEUE_PLACES};
 use mesh_gen::{Kind, Msg, MsgKind, Request, Words};
-use miss_table::Look;
+use miss_table::{BackLook, DemandLook};
 
 /// What a node has for a line, as far as other tiles' requests for it go: the first of these that holds.
 #[derive(Clone, Copy)]
@@ -31,37 +30,26 @@ pub(crate) enum Holding {
 }
 
 // What a node has for a line of which it has no owned copy.
-fn unowned(look: Look, line: u16, shared: bool) -> Holding
-    ensures { (misses : Misses) → HasOneAtMost misses → look ≡ look_of misses
+fn unowned(back: Option<BackLook>, demand: Option<DemandLook>, line: u16, shared: bool) -> Holding
+    ensures { (misses : Misses) → back ≡ option_map back_look misses.back → demand ≡ option_map demand_look misses.demand
         → result ≡ told (holding_unowned shared (live_for line misses.back) (ordered_for line misses.demand)) }
 {
-    match look {
-        Look::WriteBack {
-            line: own,
-            words,
-            live,
-            ..
-        } => {
-            if live && own == line {
-                Holding::LiveBack(words)
-            } else {
-                of_copy(shared)
-            }
+    match back {
+        Some(back) if back.live && back.line == line => Holding::LiveBack(back.words),
+        Some(_) | None => without_back(demand, line, shared),
+    }
+}
+
+// The same where no live write-back of the line stands.
+fn without_back(demand: Option<DemandLook>, line: u16, shared: bool) -> Holding
+    ensures { (misses : Misses) → demand ≡ option_map demand_look misses.demand
+        → result ≡ told (holding_unowned shared None (ordered_for line misses.demand)) }
+{
+    match demand {
+        Some(demand) if demand.ordered.is_some() && demand.line == line => {
+            of_demand(demand.kind, demand.ends_in_getm)
         }
-        Look::Demand {
-            line: own,
-            kind,
-            ordered,
-            ends_in_getm,
-            ..
-        } => {
-            if ordered.is_some() && own == line {
-                of_demand(kind, ends_in_getm)
-            } else {
-                of_copy(shared)
-            }
-        }
-        Look::Empty => of_copy(shared),
+        Some(_) | None => of_copy(shared),
     }
 }
 
@@ -111,10 +99,10 @@ impl Snooper {
                 let words = copy.1;
                 match copy.0 {
                     State::M | State::O => Holding::OwnedCopy(words),
-                    State::S => unowned(self.look(), line, true),
+                    State::S => unowned(self.back(), self.demand(), line, true),
                 }
             }
-            None => unowned(self.look(), line, false),
+            None => unowned(self.back(), self.demand(), line, false),
         }
     }
 

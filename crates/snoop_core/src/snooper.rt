@@ -1,17 +1,16 @@
-ghost use Rattle.std.specs.Prelude.{◌≡◌, ◌*◌, ◌<◌, ◌||◌, IfOk, IsSome, is_some, option_map};
+ghost use Rattle.std.specs.Prelude.{◌≡◌, ◌*◌, ◌<◌, IfOk, IsSome, IsNone, false, is_some, option_map};
 ghost use Rattle.chip_model.specs.Chip.{chip_of_mesh, line_of};
 ghost use Rattle.chip_model.specs.Cache.{lookup, installed};
-ghost use Rattle.chip_model.specs.Misses.{no_misses, new_demand, new_back, request_for, wanted, marked_sent};
+ghost use Rattle.chip_model.specs.Misses.{is_written_back, new_demand, new_back, request_for, wanted, marked_sent};
 ghost use Rattle.chip_model.specs.Snoop.{with_cache, with_demand, with_back, line_gone};
 ghost use Rattle.line_cache.specs.Sets.{Fits, MakesRoom, copy_of};
-ghost use Rattle.miss_table.specs.Table.{HasOneAtMost};
-ghost use Rattle.miss_table.specs.Looks.{look_of};
+ghost use Rattle.miss_table.specs.Looks.{demand_look, back_look};
 ghost use Rattle.snoop_core.specs.ChipSides.{opening_side};
 
 use chip_model::{Pending, State, Victim};
 use line_cache::LineCache;
 use mesh_gen::{Kind, Mesh, NoMemory, Words};
-use miss_table::{Look, MissTable};
+use miss_table::{BackLook, DemandLook, MissTable};
 use report_text::AccessKind;
 use std::alloc::Global;
 use std::marker::Model;
@@ -51,10 +50,7 @@ fn line_in(mesh: &Mesh, address: u32) -> u16
 fn request_for(kind: AccessKind) -> Kind
     ensures { result ≡ request_for kind }
 {
-    match kind {
-        AccessKind::Load => Kind::GetS,
-        AccessKind::Store => Kind::GetM,
-    }
+    if kind.writes() { Kind::GetM } else { Kind::GetS }
 }
 
 impl Snooper {
@@ -92,21 +88,43 @@ impl Snooper {
         self.cache.victim(line)
     }
 
-    // What is waited for.
-    pub(crate) fn look(&self) -> Look
-        ensures entry { result ≡ look_of self.now.side.misses }
-        ensures one { HasOneAtMost self.now.side.misses }
+    // The demand that stands.
+    #[tactic(auto, unfolding(miss_table::specs::Looks::look_of))]
+    pub(crate) fn demand(&self) -> Option<DemandLook>
+        ensures { result ≡ option_map demand_look self.now.side.misses.demand }
     {
-        self.misses.look()
+        self.misses.look().demand
     }
 
-    // Whether something is waited for.
-    pub(crate) fn has_entry(&self) -> bool
-        ensures { result ≡ is_some self.now.side.misses.demand || is_some self.now.side.misses.back }
+    // The write-back that stands.
+    #[tactic(auto, unfolding(miss_table::specs::Looks::look_of))]
+    pub(crate) fn back(&self) -> Option<BackLook>
+        ensures { result ≡ option_map back_look self.now.side.misses.back }
     {
-        match self.look() {
-            Look::Demand { .. } | Look::WriteBack { .. } => true,
-            Look::Empty => false,
+        self.misses.look().back
+    }
+
+    // Whether an access waits for its words.
+    pub(crate) fn has_demand(&self) -> bool
+        ensures { result ≡ is_some self.now.side.misses.demand }
+    {
+        self.demand().is_some()
+    }
+
+    // Whether a line is written back.
+    pub(crate) fn has_back(&self) -> bool
+        ensures { result ≡ is_some self.now.side.misses.back }
+    {
+        self.back().is_some()
+    }
+
+    // Whether this line is the one that is written back.
+    pub(crate) fn is_written_back(&self, line: u16) -> bool
+        ensures { result ≡ is_written_back line self.now.side.misses.back }
+    {
+        match self.back() {
+            Some(back) => line == back.line,
+            None => false,
         }
     }
 
@@ -146,7 +164,8 @@ impl Snooper {
 
     // A demand begins.
     pub(crate) fn start(&mut self, line: u16, pending: Pending)
-        requires { self.old.side.misses ≡ no_misses }
+        requires none { IsNone self.old.side.misses.demand }
+        requires apart { is_written_back line self.old.side.misses.back ≡ false }
         ensures { self.new ≡ record self.old {
           side = with_demand (Some (new_demand (request_for pending.kind) line pending)) self.old.side;
         } }
@@ -157,7 +176,8 @@ impl Snooper {
 
     // A write-back begins of a line with these words, which leaves the cache.
     pub(crate) fn put_back(&mut self, line: u16, words: Words)
-        requires { self.old.side.misses ≡ no_misses }
+        requires demand { IsNone self.old.side.misses.demand }
+        requires none { IsNone self.old.side.misses.back }
         ensures { self.new ≡ record self.old {
           side = with_back (Some (new_back line words)) (line_gone self.old.chip line self.old.side);
         } }
