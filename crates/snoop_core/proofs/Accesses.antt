@@ -1,44 +1,57 @@
 -- An access of the core: what it leaves of the cache side, case by case, and that it keeps its shape.
-use Rattle.std.proofs.Common.{◌≡◌, ℕ, Bool, true, false, refl, sym, ◌∙◌, ap, subst, arith, Option, Some, None, List, set}
+use Rattle.std.proofs.Common.{◌≡◌, ℕ, Bool, true, false, refl, sym, ◌∙◌, ap, subst, arith, Option, Some, None, List}
 use Rattle.std.specs.Prelude.{◌==◌, ◌||◌, not, is_some, if◌then◌else◌}
 use Rattle.std.proofs.lemmas.Bool.{not-true}
 use Rattle.std.proofs.lemmas.Bool.Decides.{nat_tests}
 use Rattle.std.proofs.lemmas.Option.{same_Some}
+use Rattle.mesh_gen.specs.declared.kind.Kind.TheVariants.{GetS, GetM}
 use Rattle.report_text.specs.declared.access.AccessKind.{AccessKind}
-use Rattle.report_text.specs.declared.access.AccessKind.TheVariants.{Load, Store}
-use Rattle.mesh_gen.specs.declared.kind.Kind.TheVariants.{GetS}
+use Rattle.report_text.specs.declared.access.AccessKind.TheVariants.{Load, Store, Swap, Add}
+use Rattle.report_text.specs.Accesses.{writes}
+use Rattle.chip_model.specs.declared.pending.Pending.{Pending}
 use Rattle.chip_model.specs.declared.line_state.State.{State}
 use Rattle.chip_model.specs.declared.line_state.State.TheVariants.{M, O, S}
-use Rattle.chip_model.specs.Chip.{Chip, line_of, word_of}
+use Rattle.chip_model.specs.Chip.{Chip, line_of}
 use Rattle.chip_model.specs.Cache.{Held, Cache, lookup, has_room, fits, installed, without_line, without_shared, lowest_for}
-use Rattle.chip_model.specs.Misses.{Demand, WriteBack, Misses, request_for, new_demand, new_back, sent_by, marked_sent}
-use Rattle.chip_model.specs.Snoop.{CacheSide, with_demand, with_back, with_cache}
-use Rattle.chip_model.specs.Node.{Node, Performed, has_entry, holds_back, with_side, demand_started, back_started, room_made, store_to, accessed_with, accessed}
+use Rattle.chip_model.specs.Misses.{Demand, WriteBack, Misses, is_written_back, request_for, new_demand, new_back, sent_demand, marked_sent}
+use Rattle.chip_model.specs.Snoop.{CacheSide, with_demand, with_back, with_cache, written_by}
+use Rattle.chip_model.specs.Node.{Node, Performed, has_entry, holds_back, with_side, load_hit, demand_started, back_started, room_made, missed, unless_written_back, store_to, accessed_with, accessed}
 use Rattle.chip_model.specs.NodeShape.{IsCache, is_modified_state, is_modified, DemandFits, SideFits}
 use Rattle.snoop_core.proofs.Options.{none_some, when_some}
-use Rattle.snoop_core.proofs.CacheMaps.{DropsShared, drops_shared, PutsBack, puts_back, lookup-line, lookup-without_line, fits_held, fits_room, IsCache-without_line, IsCache-installed}
+use Rattle.snoop_core.proofs.CacheMaps.{DropsShared, drops_shared, PutsBack, puts_back, lookup-line, lookup-without_line, lookup-installed, fits_held, fits_room, IsCache-without_line, IsCache-installed}
+use Rattle.snoop_core.proofs.Sending.{sent_forms}
 
 -- a demand that an access starts
-abbrev pub started_by : AccessKind → ℕ → ℕ → Demand
-started_by kind address value = new_demand (request_for kind) (line_of address) (record { kind = kind; address = address; value = value })
+abbrev pub started_by : Pending → Demand
+started_by access = new_demand (request_for access.kind) (line_of access.address) access
 
 -- what an access leaves of the node
 pub record AccessForms (node : Node) (line : ℕ) (P : Node → Type 0) : Type 0 where
   pub hit : P node
   pub wrote : (held : Held) → lookup node.chip node.side.cache line ≡ Some held → held.state ≡ M → (words : List ℕ)
       → P (with_side (with_cache (installed node.chip (record held { words = words }) node.side.cache) node.side) node)
-  pub missed : (kind : AccessKind) (address value : ℕ) → line_of address ≡ line → lookup node.chip node.side.cache line ≡ None
-      → has_room node.chip node.side.cache line ≡ true
-      → P (with_side (with_demand (Some (started_by kind address value)) node.side) node)
-  pub upgraded : (address value : ℕ) → line_of address ≡ line → (held : Held) → lookup node.chip node.side.cache line ≡ Some held
+  pub missed : (access : Pending) → line_of access.address ≡ line → is_written_back line node.side.misses.back ≡ false
+      → lookup node.chip node.side.cache line ≡ None → has_room node.chip node.side.cache line ≡ true
+      → P (with_side (with_demand (Some (started_by access)) node.side) node)
+  pub upgraded : (access : Pending) → line_of access.address ≡ line → is_written_back line node.side.misses.back ≡ false
+      → writes access.kind ≡ true → (held : Held) → lookup node.chip node.side.cache line ≡ Some held
       → is_modified (Some held) ≡ false
-      → P (with_side (with_demand (Some (started_by Store address value)) node.side) node)
-  pub made_room : (kind : AccessKind) (address value : ℕ) → line_of address ≡ line → lookup node.chip node.side.cache line ≡ None
-      → (cache : Cache) → DropsShared node.chip line node.side.cache cache
-      → P (with_side (with_demand (Some (started_by kind address value)) (with_cache cache node.side)) node)
-  pub put_back : (held : Held) → PutsBack node.chip node.side.cache held → holds_back node.out ≡ false
+      → P (with_side (with_demand (Some (started_by access)) node.side) node)
+  pub made_room : (access : Pending) → line_of access.address ≡ line → is_written_back line node.side.misses.back ≡ false
+      → lookup node.chip node.side.cache line ≡ None → (cache : Cache) → DropsShared node.chip line node.side.cache cache
+      → P (with_side (with_demand (Some (started_by access)) (with_cache cache node.side)) node)
+  pub put_back : (held : Held) → PutsBack node.chip node.side.cache held → holds_back node.out ≡ false → node.side.misses.back ≡ None
       → P (with_side (with_back (Some (new_back held.line held.words))
       (with_cache (without_line node.chip held.line node.side.cache) node.side)) node)
+
+none_stands : {X : Type 0} (entry : Option X) → is_some entry ≡ false → entry ≡ None
+none_stands None none = refl
+none_stands (Some x) none = cc
+
+neither : (a b : Bool) → not (a || b) ≡ true → (a ≡ false) × (b ≡ false)
+neither false false free = (refl, refl)
+neither false true free = cc
+neither true b free = cc
 
 back_forms : (node : Node) (line : ℕ) (low : Option Held) (performed : Performed) (P : Node → Type 0) → IsCache node.chip node.side.cache
     → has_room node.chip node.side.cache line ≡ false
@@ -46,83 +59,116 @@ back_forms : (node : Node) (line : ℕ) (low : Option Held) (performed : Perform
     → back_started node low ≡ Some performed → P performed.0
 back_forms node line None performed P cache full unshared low forms is = cc
 back_forms node line (Some held) performed P cache full unshared low forms is =
-    when_some (not (holds_back node.out)) _ performed is (λ free same.
+    when_some (not (holds_back node.out || is_some node.side.misses.back)) _ performed is (λ free same.
+    let both = neither (holds_back node.out) (is_some node.side.misses.back) free in
     subst (λ (p : Performed). P p.0) (same_Some _ performed same)
-    (forms.put_back held (puts_back node.chip line node.side.cache held cache full unshared low) (not-true (holds_back node.out) free)))
+    (forms.put_back held (puts_back node.chip line node.side.cache held cache full unshared low) both.0 (none_stands node.side.misses.back both.1)))
 
-room_forms : (kind : AccessKind) (address value : ℕ) (node : Node) (freed : Option Cache) (performed : Performed) (P : Node → Type 0)
-    → IsCache node.chip node.side.cache
-    → lookup node.chip node.side.cache (line_of address) ≡ None → has_room node.chip node.side.cache (line_of address) ≡ false
-    → without_shared node.chip (line_of address) node.side.cache ≡ freed → AccessForms node (line_of address) P
-    → room_made kind address value node freed ≡ Some performed → P performed.0
-room_forms kind address value node (Some new) performed P cache absent full freed forms is =
+room_forms : (access : Pending) (node : Node) (freed : Option Cache) (performed : Performed) (P : Node → Type 0)
+    → IsCache node.chip node.side.cache → is_written_back (line_of access.address) node.side.misses.back ≡ false
+    → lookup node.chip node.side.cache (line_of access.address) ≡ None → has_room node.chip node.side.cache (line_of access.address) ≡ false
+    → without_shared node.chip (line_of access.address) node.side.cache ≡ freed → AccessForms node (line_of access.address) P
+    → room_made access node freed ≡ Some performed → P performed.0
+room_forms access node (Some new) performed P cache apart absent full freed forms is =
     subst (λ (p : Performed). P p.0) (same_Some _ performed is)
-    (forms.made_room kind address value refl absent new (drops_shared node.chip (line_of address) node.side.cache new cache freed))
-room_forms kind address value node None performed P cache absent full freed forms is =
-    back_forms node (line_of address) (lowest_for node.chip (line_of address) node.side.cache) performed P cache full freed refl forms is
+    (forms.made_room access refl apart absent new (drops_shared node.chip (line_of access.address) node.side.cache new cache freed))
+room_forms access node None performed P cache apart absent full freed forms is =
+    back_forms node (line_of access.address) (lowest_for node.chip (line_of access.address) node.side.cache) performed P cache full freed refl forms is
 
-missed_forms : (kind : AccessKind) (address value : ℕ) (node : Node) (b : Bool) (performed : Performed) (P : Node → Type 0)
-    → IsCache node.chip node.side.cache
-    → lookup node.chip node.side.cache (line_of address) ≡ None → has_room node.chip node.side.cache (line_of address) ≡ b
-    → AccessForms node (line_of address) P
-    → (if b then Some (demand_started kind address value node.side node) else room_made kind address value node (without_shared node.chip (line_of address) node.side.cache))
+missed_forms : (access : Pending) (node : Node) (b : Bool) (performed : Performed) (P : Node → Type 0)
+    → IsCache node.chip node.side.cache → is_written_back (line_of access.address) node.side.misses.back ≡ false
+    → lookup node.chip node.side.cache (line_of access.address) ≡ None → has_room node.chip node.side.cache (line_of access.address) ≡ b
+    → AccessForms node (line_of access.address) P
+    → (if b then Some (demand_started access node.side node) else room_made access node (without_shared node.chip (line_of access.address) node.side.cache))
     ≡ Some performed
     → P performed.0
-missed_forms kind address value node true performed P cache absent room forms is =
-    subst (λ (p : Performed). P p.0) (same_Some _ performed is) (forms.missed kind address value refl absent room)
-missed_forms kind address value node false performed P cache absent full forms is =
-    room_forms kind address value node
-    (without_shared node.chip (line_of address) node.side.cache) performed P cache absent full refl forms is
+missed_forms access node true performed P cache apart absent room forms is =
+    subst (λ (p : Performed). P p.0) (same_Some _ performed is) (forms.missed access refl apart absent room)
+missed_forms access node false performed P cache apart absent full forms is =
+    room_forms access node
+    (without_shared node.chip (line_of access.address) node.side.cache) performed P cache apart absent full refl forms is
 
-stored_forms : (address value : ℕ) (held : Held) (node : Node) (state : State) (P : Node → Type 0) → held.state ≡ state
-    → lookup node.chip node.side.cache (line_of address) ≡ Some held
-    → AccessForms node (line_of address) P → P (store_to address value held node state).0
-stored_forms address value held node M P is there forms = forms.wrote held there is (set held.words (word_of address) value)
-stored_forms address value held node O P is there forms = forms.upgraded address value refl held there (ap is_modified_state is)
-stored_forms address value held node S P is there forms = forms.upgraded address value refl held there (ap is_modified_state is)
+-- a miss is of another line than the one that is written back
+apart_forms : (access : Pending) (node : Node) (miss : Option Performed) (performed : Performed) (P : Type 0)
+    → (is_written_back (line_of access.address) node.side.misses.back ≡ false → miss ≡ Some performed → P)
+    → unless_written_back access node miss ≡ Some performed → P
+apart_forms access node miss performed P forms is =
+    when_some (not (is_written_back (line_of access.address) node.side.misses.back)) miss performed is (λ free done.
+    forms (not-true (is_written_back (line_of access.address) node.side.misses.back) free) done)
 
-accessed_forms : (kind : AccessKind) (address value : ℕ) (node : Node) (copy : Option Held) (performed : Performed) (P : Node → Type 0)
+upgraded_forms : (access : Pending) (held : Held) (node : Node) (performed : Performed) (P : Node → Type 0) → writes access.kind ≡ true
+    → is_modified (Some held) ≡ false → lookup node.chip node.side.cache (line_of access.address) ≡ Some held
+    → AccessForms node (line_of access.address) P
+    → unless_written_back access node (Some (demand_started access node.side node)) ≡ Some performed → P performed.0
+upgraded_forms access held node performed P changes unmodified there forms is =
+    apart_forms access node (Some (demand_started access node.side node)) performed (P performed.0) (λ apart done.
+    subst (λ (p : Performed). P p.0) (same_Some _ performed done) (forms.upgraded access refl apart changes held there unmodified)) is
+
+stored_forms : (access : Pending) (held : Held) (node : Node) (state : State) (performed : Performed) (P : Node → Type 0) → writes access.kind ≡ true
+    → held.state ≡ state → lookup node.chip node.side.cache (line_of access.address) ≡ Some held
+    → AccessForms node (line_of access.address) P → store_to access held node state ≡ Some performed → P performed.0
+stored_forms access held node M performed P changes state there forms is =
+    subst (λ (p : Performed). P p.0) (same_Some _ performed is) (forms.wrote held there state (written_by access held.words))
+stored_forms access held node O performed P changes state there forms is =
+    upgraded_forms access held node performed P changes (ap is_modified_state state) there forms is
+stored_forms access held node S performed P changes state there forms is =
+    upgraded_forms access held node performed P changes (ap is_modified_state state) there forms is
+
+held_forms : (access : Pending) (node : Node) (held : Held) (b : Bool) (performed : Performed) (P : Node → Type 0) → writes access.kind ≡ b
+    → lookup node.chip node.side.cache (line_of access.address) ≡ Some held → AccessForms node (line_of access.address) P
+    → (if b then store_to access held node held.state else Some (load_hit access held node)) ≡ Some performed → P performed.0
+held_forms access node held true performed P changes there forms is = stored_forms access held node held.state performed P changes refl there forms is
+held_forms access node held false performed P changes there forms is = subst (λ (p : Performed). P p.0) (same_Some _ performed is) forms.hit
+
+accessed_forms : (access : Pending) (node : Node) (copy : Option Held) (performed : Performed) (P : Node → Type 0)
     → IsCache node.chip node.side.cache
-    → lookup node.chip node.side.cache (line_of address) ≡ copy → AccessForms node (line_of address) P
-    → accessed_with kind address value node copy ≡ Some performed → P performed.0
-accessed_forms kind address value node None performed P cache absent forms is =
-    missed_forms kind address value node (has_room node.chip node.side.cache (line_of address)) performed P cache absent refl forms is
-accessed_forms Load address value node (Some held) performed P cache there forms is = subst (λ (p : Performed). P p.0)
-    (same_Some _ performed is) forms.hit
-accessed_forms Store address value node (Some held) performed P cache there forms is =
-    subst (λ (p : Performed). P p.0) (same_Some _ performed is) (stored_forms address value held node held.state P refl there forms)
+    → lookup node.chip node.side.cache (line_of access.address) ≡ copy → AccessForms node (line_of access.address) P
+    → accessed_with access node copy ≡ Some performed → P performed.0
+accessed_forms access node None performed P cache absent forms is =
+    apart_forms access node (missed access node) performed (P performed.0) (λ apart done.
+    missed_forms access node (has_room node.chip node.side.cache (line_of access.address)) performed P cache apart absent refl forms done) is
+accessed_forms access node (Some held) performed P cache there forms is =
+    held_forms access node held (writes access.kind) performed P refl there forms is
 
-pub access_forms : (kind : AccessKind) (address value : ℕ) (node : Node) (performed : Performed) (P : Node → Type 0)
+pub access_forms : (access : Pending) (node : Node) (performed : Performed) (P : Node → Type 0)
     → IsCache node.chip node.side.cache
-    → AccessForms node (line_of address) P → accessed kind address value node ≡ Some performed → P performed.0
+    → AccessForms node (line_of access.address) P → accessed access node ≡ Some performed → P performed.0
 unfolding accessed
-access_forms kind address value node performed P cache forms is =
+access_forms access node performed P cache forms is =
     when_some (not (has_entry node))
-    (accessed_with kind address value node (lookup node.chip node.side.cache (line_of address))) performed is (λ free done.
-    accessed_forms kind address value node (lookup node.chip node.side.cache (line_of address)) performed P cache refl forms done)
+    (accessed_with access node (lookup node.chip node.side.cache (line_of access.address))) performed is (λ free done.
+    accessed_forms access node (lookup node.chip node.side.cache (line_of access.address)) performed P cache refl forms done)
 
--- ---- an access is done where the node waits for nothing
-neither : (demand : Option Demand) (back : Option WriteBack) → not (is_some demand || is_some back) ≡ true → (demand ≡ None) × (back ≡ None)
-neither None None free = (refl, refl)
-neither None (Some back) free = cc
-neither (Some demand) back free = cc
-
-pub accessed_free : (kind : AccessKind) (address value : ℕ) (node : Node) (performed : Performed)
-    → accessed kind address value node ≡ Some performed
-    → (node.side.misses.demand ≡ None) × (node.side.misses.back ≡ None)
+-- ---- an access is done where no other one waits
+pub accessed_free : (access : Pending) (node : Node) (performed : Performed)
+    → accessed access node ≡ Some performed → node.side.misses.demand ≡ None
 unfolding accessed
-accessed_free kind address value node performed is =
+accessed_free access node performed is =
     when_some (not (has_entry node))
-    (accessed_with kind address value node (lookup node.chip node.side.cache (line_of address))) performed is (λ free done.
-    neither node.side.misses.demand node.side.misses.back free)
+    (accessed_with access node (lookup node.chip node.side.cache (line_of access.address))) performed is (λ free done.
+    none_stands node.side.misses.demand (not-true (has_entry node) free))
 
 -- ---- a demand that starts
-pub SideFits-started : (chip : Chip) (side : CacheSide) (cache : Cache) (kind : AccessKind) (address value : ℕ) → side.misses.back ≡ None
-    → IsCache chip cache → fits chip cache (line_of address) ≡ true
-    → is_modified (lookup chip cache (line_of address)) ≡ false → (request_for kind ≡ GetS → lookup chip cache (line_of address) ≡ None)
-    → SideFits chip (with_demand (Some (started_by kind address value)) (with_cache cache side))
-SideFits-started chip side cache kind address value none is fit unmodified absent =
-    let fresh : DemandFits chip cache (started_by kind address value) = record {
+asks_to_write : (kind : AccessKind) → writes kind ≡ true → request_for kind ≡ GetM
+asks_to_write Load changes = cc
+asks_to_write Store changes = refl
+asks_to_write Swap changes = refl
+asks_to_write Add changes = refl
+
+apart_from : (line : ℕ) (entry : Option WriteBack) (back : WriteBack) → is_written_back line entry ≡ false → entry ≡ Some back
+    → (line == back.line) ≡ false
+apart_from line None back apart stands = cc
+apart_from line (Some b) back apart stands = subst (λ (x : WriteBack). (line == x.line) ≡ false) (same_Some b back stands) apart
+
+pub SideFits-started : (chip : Chip) (side : CacheSide) (cache : Cache) (access : Pending)
+    → is_written_back (line_of access.address) side.misses.back ≡ false
+    → ((back : WriteBack) → side.misses.back ≡ Some back → lookup chip cache back.line ≡ None)
+    → IsCache chip cache → fits chip cache (line_of access.address) ≡ true
+    → is_modified (lookup chip cache (line_of access.address)) ≡ false
+    → (request_for access.kind ≡ GetS → lookup chip cache (line_of access.address) ≡ None)
+    → SideFits chip (with_demand (Some (started_by access)) (with_cache cache side))
+SideFits-started chip side cache access apart gone is fit unmodified absent =
+    let fresh : DemandFits chip cache (started_by access) = record {
       asks = refl;
       line = refl;
       room = fit;
@@ -134,12 +180,15 @@ SideFits-started chip side cache kind address value none is fit unmodified absen
       unordered = λ unordered. (refl, refl);
       reads = λ read. refl;
       writes = λ write. refl;
+      gone = λ ends. cc;
     } in record {
       cache = is;
-      demand = λ demand stands. let same : started_by kind address value ≡ demand = cc in
+      demand = λ demand stands. let same : started_by access ≡ demand = cc in
           subst (λ (d : Demand). DemandFits chip cache d) same fresh;
-      back = λ back stands. absurd (none_some side.misses.back back none stands);
-      apart = λ demand back stands stands_back. absurd (none_some side.misses.back back none stands_back);
+      back = gone;
+      apart = λ demand back stands stands_back. let same : started_by access ≡ demand = cc in
+          subst (λ (d : Demand). (d.line == back.line) ≡ false) same
+          (apart_from (line_of access.address) side.misses.back back apart stands_back);
     }
 
 -- ---- a line that is written back
@@ -156,16 +205,16 @@ SideFits-put chip side held none is = record {
 
 -- ---- a copy that is written
 SideFits-wrote : (chip : Chip) (side : CacheSide) (line : ℕ) (held : Held) (words : List ℕ) → side.misses.demand ≡ None
-    → side.misses.back ≡ None → lookup chip side.cache line ≡ Some held
+    → lookup chip side.cache line ≡ Some held
     → SideFits chip side → SideFits chip (with_cache (installed chip (record held { words = words }) side.cache) side)
-SideFits-wrote chip side line held words no_demand no_back there is =
+SideFits-wrote chip side line held words no_demand there is =
     let same : held.line ≡ line = lookup-line chip side.cache line held there in
-    let fit : fits chip side.cache held.line ≡ true = fits_held chip side.cache held.line
-    (ap (λ (l : ℕ). is_some (lookup chip side.cache l)) same ∙ ap is_some there) in
+    let at : lookup chip side.cache held.line ≡ Some held = ap (λ (l : ℕ). lookup chip side.cache l) same ∙ there in
+    let fit : fits chip side.cache held.line ≡ true = fits_held chip side.cache held.line (ap is_some at) in
     record {
       cache = IsCache-installed chip side.cache (record held { words = words }) fit is.cache;
       demand = λ demand stands. absurd (none_some side.misses.demand demand no_demand stands);
-      back = λ back stands. absurd (none_some side.misses.back back no_back stands);
+      back = λ back stands. grind (arith, nat_tests, lookup-installed chip side.cache (record held { words = words }) back.line fit, at, is.back back stands);
       apart = λ demand back stands stands_back. absurd (none_some side.misses.demand demand no_demand stands);
     }
 
@@ -180,31 +229,44 @@ cache_still : (chip : Chip) (line : ℕ) (cache new : Cache) → DropsShared chi
 cache_still chip line cache new drops is = subst (λ (c : Cache). IsCache chip c) (sym drops.dropped)
     (IsCache-without_line chip cache drops.was.line is)
 
+back_still : (chip : Chip) (side : CacheSide) (line : ℕ) (new : Cache) → DropsShared chip line side.cache new → SideFits chip side
+    → (back : WriteBack) → side.misses.back ≡ Some back → lookup chip new back.line ≡ None
+back_still chip side line new drops is back stands =
+    ap (λ (c : Cache). lookup chip c back.line) drops.dropped
+    ∙ grind (arith, nat_tests, lookup-without_line chip side.cache drops.was.line back.line, is.back back stands)
+
 -- an access keeps the shape
-pub SideFits-accessed : (kind : AccessKind) (address value : ℕ) (node : Node) (performed : Performed)
-    → accessed kind address value node ≡ Some performed
+pub SideFits-accessed : (access : Pending) (node : Node) (performed : Performed)
+    → accessed access node ≡ Some performed
     → SideFits node.chip node.side → SideFits performed.0.chip performed.0.side
-SideFits-accessed kind address value node performed done is =
-    let free = accessed_free kind address value node performed done in
-    access_forms kind address value node performed (λ after. SideFits after.chip after.side) is.cache (record {
+SideFits-accessed access node performed done is =
+    let free = accessed_free access node performed done in
+    let chip = node.chip in
+    let cache = node.side.cache in
+    let back = node.side.misses.back in
+    access_forms access node performed (λ after. SideFits after.chip after.side) is.cache (record {
       hit = is;
-      wrote = λ held there modified words. SideFits-wrote node.chip node.side (line_of address) held words free.0 free.1 there is;
-      missed = λ k a v line absent room. SideFits-started node.chip node.side node.side.cache k a v free.1 is.cache
-          (fits_room node.chip node.side.cache (line_of a) (ap (λ (l : ℕ). has_room node.chip node.side.cache l) line ∙ room))
-          (ap (λ (l : ℕ). is_modified (lookup node.chip node.side.cache l)) line ∙ ap is_modified absent)
-          (λ read. ap (λ (l : ℕ). lookup node.chip node.side.cache l) line ∙ absent);
-      upgraded = λ a v line held there unmodified. SideFits-started node.chip node.side node.side.cache Store a v free.1 is.cache
-          (fits_held node.chip node.side.cache (line_of a)
-          (ap (λ (l : ℕ). is_some (lookup node.chip node.side.cache l)) line ∙ ap is_some there))
-          (ap (λ (l : ℕ). is_modified (lookup node.chip node.side.cache l)) line ∙ ap is_modified there ∙ unmodified)
-          (λ read. cc);
-      made_room = λ k a v line absent cache drops. let gone = absent_still node.chip (line_of address) node.side.cache cache drops absent in
-          SideFits-started node.chip node.side cache k a v free.1
-          (cache_still node.chip (line_of address) node.side.cache cache drops is.cache)
-          (fits_room node.chip cache (line_of a) (ap (λ (l : ℕ). has_room node.chip cache l) line ∙ drops.room))
-          (ap (λ (l : ℕ). is_modified (lookup node.chip cache l)) line ∙ ap is_modified gone)
-          (λ read. ap (λ (l : ℕ). lookup node.chip cache l) line ∙ gone);
-      put_back = λ held puts free_queue. SideFits-put node.chip node.side held free.0 is;
+      wrote = λ held there modified words. SideFits-wrote chip node.side (line_of access.address) held words free there is;
+      missed = λ a line apart absent room. SideFits-started chip node.side cache a
+          (ap (λ (l : ℕ). is_written_back l back) line ∙ apart) is.back is.cache
+          (fits_room chip cache (line_of a.address) (ap (λ (l : ℕ). has_room chip cache l) line ∙ room))
+          (ap (λ (l : ℕ). is_modified (lookup chip cache l)) line ∙ ap is_modified absent)
+          (λ read. ap (λ (l : ℕ). lookup chip cache l) line ∙ absent);
+      upgraded = λ a line apart changes held there unmodified. SideFits-started chip node.side cache a
+          (ap (λ (l : ℕ). is_written_back l back) line ∙ apart) is.back is.cache
+          (fits_held chip cache (line_of a.address)
+          (ap (λ (l : ℕ). is_some (lookup chip cache l)) line ∙ ap is_some there))
+          (ap (λ (l : ℕ). is_modified (lookup chip cache l)) line ∙ ap is_modified there ∙ unmodified)
+          (λ read. let both : GetS ≡ GetM = sym read ∙ asks_to_write a.kind changes in cc);
+      made_room = λ a line apart absent new drops. let gone = absent_still chip (line_of access.address) cache new drops absent in
+          SideFits-started chip node.side new a
+          (ap (λ (l : ℕ). is_written_back l back) line ∙ apart)
+          (back_still chip node.side (line_of access.address) new drops is)
+          (cache_still chip (line_of access.address) cache new drops is.cache)
+          (fits_room chip new (line_of a.address) (ap (λ (l : ℕ). has_room chip new l) line ∙ drops.room))
+          (ap (λ (l : ℕ). is_modified (lookup chip new l)) line ∙ ap is_modified gone)
+          (λ read. ap (λ (l : ℕ). lookup chip new l) line ∙ gone);
+      put_back = λ held puts free_queue alone. SideFits-put chip node.side held free is;
     }) done
 
 -- ---- the request is sent
@@ -222,51 +284,58 @@ sent_fits chip cache demand is = record {
   unordered = is.unordered;
   reads = is.reads;
   writes = is.writes;
+  gone = is.gone;
 }
 
 abbrev pub with_misses : Misses → CacheSide → CacheSide
 with_misses misses side = record side { misses = misses }
 
-SideFits-sent_by : (chip : Chip) (side : CacheSide) (demand : Option Demand) (back : Option WriteBack) → side.misses.demand ≡ demand
-    → side.misses.back ≡ back
-    → SideFits chip side → SideFits chip (with_misses (sent_by demand back) side)
-SideFits-sent_by chip side (Some demand) back stands stands_back is = record {
+-- a demand that is sent was one before
+pub sent_was : (before : Option Demand) (demand : Demand) → sent_demand before ≡ Some demand
+    → (old : Demand) × (before ≡ Some old) × (demand ≡ record old { sent = true })
+sent_was None demand is = cc
+sent_was (Some old) demand is = (old, refl, sym (same_Some _ demand is))
+
+SideFits-get_sent : (chip : Chip) (side : CacheSide) → SideFits chip side
+    → SideFits chip (with_misses (record { demand = sent_demand side.misses.demand; back = side.misses.back }) side)
+SideFits-get_sent chip side is = record {
   cache = is.cache;
-  demand = λ d now. let same : record demand { sent = true } ≡ d = cc in
-      subst (λ (x : Demand). DemandFits chip side.cache x) same (sent_fits chip side.cache demand (is.demand demand stands));
-  back = λ b now. is.back b (stands_back ∙ now);
-  apart = λ d b now now_back. let same : record demand { sent = true } ≡ d = cc in
-      subst (λ (x : Demand). (x.line == b.line) ≡ false) same (is.apart demand b stands (stands_back ∙ now_back));
+  demand = λ demand now. let was = sent_was side.misses.demand demand now in
+      subst (λ (x : Demand). DemandFits chip side.cache x) (sym was.2) (sent_fits chip side.cache was.0 (is.demand was.0 was.1));
+  back = is.back;
+  apart = λ demand back now stands_back. let was = sent_was side.misses.demand demand now in
+      subst (λ (x : Demand). (x.line == back.line) ≡ false) (sym was.2) (is.apart was.0 back was.1 stands_back);
 }
-SideFits-sent_by chip side None (Some back) stands stands_back is = record {
+
+SideFits-put_sent : (chip : Chip) (side : CacheSide) (back : WriteBack) → side.misses.back ≡ Some back → SideFits chip side
+    → SideFits chip (with_misses (record { demand = side.misses.demand; back = Some (record back { sent = true }) }) side)
+SideFits-put_sent chip side back stands is = record {
   cache = is.cache;
-  demand = λ d now. cc;
+  demand = is.demand;
   back = λ b now. let same : record back { sent = true } ≡ b = cc in
-      subst (λ (x : WriteBack). lookup chip side.cache x.line ≡ None) same (is.back back stands_back);
-  apart = λ d b now now_back. cc;
-}
-SideFits-sent_by chip side None None stands stands_back is = record {
-  cache = is.cache;
-  demand = λ d now. cc;
-  back = λ b now. cc;
-  apart = λ d b now now_back. cc;
+      subst (λ (x : WriteBack). lookup chip side.cache x.line ≡ None) same (is.back back stands);
+  apart = λ demand b stands_demand now. let same : record back { sent = true } ≡ b = cc in
+      subst (λ (x : WriteBack). (demand.line == x.line) ≡ false) same (is.apart demand back stands_demand stands);
 }
 
 pub SideFits-marked_sent : (chip : Chip) (side : CacheSide) → SideFits chip side
     → SideFits chip (with_misses (marked_sent side.misses) side)
 unfolding marked_sent
-SideFits-marked_sent chip side is = SideFits-sent_by chip side side.misses.demand side.misses.back refl refl is
+SideFits-marked_sent chip side is = sent_forms side.misses.demand side.misses.back (λ m. SideFits chip (with_misses m side)) (record {
+  get = SideFits-get_sent chip side is;
+  put = λ back stands. SideFits-put_sent chip side back stands is;
+})
 
 -- an access changes the cache side alone
-pub accessed_frame : (kind : AccessKind) (address value : ℕ) (node : Node) (performed : Performed)
-    → accessed kind address value node ≡ Some performed → IsCache node.chip node.side.cache
+pub accessed_frame : (access : Pending) (node : Node) (performed : Performed)
+    → accessed access node ≡ Some performed → IsCache node.chip node.side.cache
     → performed.0 ≡ with_side performed.0.side node
-accessed_frame kind address value node performed done is = access_forms kind address value node performed
+accessed_frame access node performed done is = access_forms access node performed
     (λ after. after ≡ with_side after.side node) is (record {
       hit = refl;
       wrote = λ held there modified words. refl;
-      missed = λ k a v same absent room. refl;
-      upgraded = λ a v same held there unmodified. refl;
-      made_room = λ k a v same absent cache drops. refl;
-      put_back = λ held puts queue. refl;
+      missed = λ a at apart absent room. refl;
+      upgraded = λ a at apart changes held there unmodified. refl;
+      made_room = λ a at apart absent cache drops. refl;
+      put_back = λ held puts queue alone. refl;
     }) done

@@ -9,7 +9,7 @@ use Rattle.mesh_gen.specs.declared.request.Request.{Request}
 use Rattle.mesh_gen.specs.declared.msg.Msg.{Msg}
 use Rattle.mesh_gen.specs.declared.msg_kind.MsgKind.{MsgKind}
 use Rattle.mesh_gen.specs.declared.msg_kind.MsgKind.TheVariants.{Data, Back}
-use Rattle.report_text.specs.declared.access.AccessKind.{AccessKind}
+use Rattle.chip_model.specs.declared.pending.Pending.{Pending}
 use Rattle.chip_model.specs.declared.owner.Owner.{Owner}
 use Rattle.chip_model.specs.declared.owner.Owner.TheVariants.{Memory}
 use Rattle.chip_model.specs.Chip.{Chip, home}
@@ -124,14 +124,14 @@ unfolding message_arrived
 OwnsByOrder-message_arrived ordered msg node fits law = by_order_arrived ordered msg node msg.kind fits law
 
 -- ---- an access, a request and a message that are sent
-pub OwnsByOrder-accessed : (ordered : List Request) (kind : AccessKind) (address value : ℕ) (node : Node) (performed : Performed)
-    → accessed kind address value node ≡ Some performed
+pub OwnsByOrder-accessed : (ordered : List Request) (access : Pending) (node : Node) (performed : Performed)
+    → accessed access node ≡ Some performed
     → SideFits node.chip node.side → OwnsByOrder ordered node → OwnsByOrder ordered performed.0
-OwnsByOrder-accessed ordered kind address value node performed done fits law =
-    let same = accessed_frame kind address value node performed done fits.cache in
+OwnsByOrder-accessed ordered access node performed done fits law =
+    let same = accessed_frame access node performed done fits.cache in
     subst (λ (n : Node). OwnsByOrder ordered n) (sym same) (record {
       lines = λ line. subst (λ (n : Node). owns n.chip n.side line ≡ owns node.chip node.side line) same
-          (owns-accessed kind address value node performed done fits line) ∙ law.lines line;
+          (owns-accessed access node performed done fits line) ∙ law.lines line;
       records = law.records;
     })
 

@@ -1,15 +1,15 @@
 -- A demand completes: what is left of the cache side, and that it keeps its shape.
-use Rattle.std.proofs.Common.{◌≡◌, ℕ, true, false, refl, ◌∙◌, ap, subst, arith, Option, Some, None, List, [], ◌∷◌, set}
+use Rattle.std.proofs.Common.{◌≡◌, ℕ, true, false, refl, ◌∙◌, ap, subst, arith, Option, Some, None, List, [], ◌∷◌}
 use Rattle.std.proofs.lemmas.Bool.{cond_both}
 use Rattle.mesh_gen.specs.declared.msg.Msg.{Msg}
 use Rattle.mesh_gen.specs.declared.msg_kind.MsgKind.TheVariants.{Data}
 use Rattle.chip_model.specs.declared.line_state.State.{State}
 use Rattle.chip_model.specs.declared.line_state.State.TheVariants.{M, O, S}
 use Rattle.chip_model.specs.declared.waiting.Waiting.{Waiting}
-use Rattle.chip_model.specs.Chip.{Chip, word_of}
+use Rattle.chip_model.specs.Chip.{Chip}
 use Rattle.chip_model.specs.Cache.{Cache, is_shared, installed, without_line}
 use Rattle.chip_model.specs.Misses.{Demand, is_getm, ends_in_getm}
-use Rattle.chip_model.specs.Snoop.{CacheSide, with_demand, with_cache, line_gone, kept_after_store, kept_after_load, completed_load, completed_store, completed, data_at, data_for, data_arrived}
+use Rattle.chip_model.specs.Snoop.{CacheSide, with_demand, with_cache, line_gone, written_by, kept_after_store, kept_after_load, completed_load, completed_store, completed, data_at, data_for, data_arrived}
 use Rattle.chip_model.specs.NodeShape.{DemandFits, SideFits}
 use Rattle.snoop_core.specs.Requests.{DataFits}
 use Rattle.snoop_core.proofs.Sides.{SideFits-without_line, SideFits-demand, SideFits-served, SideFits-installed}
@@ -48,7 +48,7 @@ pub completed_forms : (chip : Chip) (demand : Demand) (place : ℕ) (words : Lis
 completed_forms chip demand place words side P forms =
     cond_both (is_getm demand.kind) (completed_store chip demand place words side) (completed_load chip demand place words side)
     (λ outcome. P outcome.side)
-    (λ writes. store_forms chip demand (set words (word_of demand.pending.address) demand.pending.value) demand.list side.cache
+    (λ writes. store_forms chip demand (written_by demand.pending words) demand.list side.cache
     (λ cache. P (with_demand None (with_cache cache side))) writes refl forms)
     (λ reads. load_forms chip demand words side.cache (λ cache. P (with_demand None (with_cache cache side))) reads forms)
 
@@ -78,6 +78,7 @@ early_fits chip cache demand words sent none is = record {
   unordered = is.unordered;
   reads = is.reads;
   writes = is.writes;
+  gone = is.gone;
 }
 
 SideFits-data_at : (chip : Chip) (side : CacheSide) (words : List ℕ) (demand : Demand) (place : Option ℕ) → side.misses.demand ≡ Some demand

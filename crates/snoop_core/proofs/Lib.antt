@@ -4,7 +4,7 @@ pub mod Accessing
 pub mod CacheMaps
 pub mod Completing
 pub mod Completions
-pub mod Entries
+pub mod Sending
 pub mod HoldingCases
 pub mod LinesKept
 pub mod Messages
@@ -21,6 +21,5 @@ pub mod Sides
 pub mod SnoopSteps
 pub mod Sound
 pub mod TableRows
-pub mod Trials
 pub mod ByOrder
 pub mod ShapeSteps

@@ -9,11 +9,11 @@ use Rattle.mesh_gen.specs.declared.request.Request.{Request}
 use Rattle.mesh_gen.specs.declared.msg.Msg.{Msg}
 use Rattle.mesh_gen.specs.declared.msg_kind.MsgKind.{MsgKind}
 use Rattle.mesh_gen.specs.declared.msg_kind.MsgKind.TheVariants.{Data, Back}
-use Rattle.report_text.specs.declared.access.AccessKind.{AccessKind}
+use Rattle.chip_model.specs.declared.pending.Pending.{Pending}
 use Rattle.chip_model.specs.declared.line_state.State.TheVariants.{O, S}
 use Rattle.chip_model.specs.Chip.{Chip, line_of}
 use Rattle.chip_model.specs.Cache.{Held, Cache, lookup, fits, installed, without_line}
-use Rattle.chip_model.specs.Misses.{Demand, WriteBack, new_back, sent_by, marked_sent}
+use Rattle.chip_model.specs.Misses.{Demand, WriteBack, new_back, sent_demand, marked_sent}
 use Rattle.chip_model.specs.Snoop.{CacheSide, with_demand, with_back, with_cache, line_gone, made_owned, made_stale, ordered_with, own_get, own_put, own_request, snooped_with, snooped, holding, completed, data_at, data_for, data_arrived}
 use Rattle.chip_model.specs.Records.{LineRecord, Records, answered_at, answered, returned_at, back_arrived}
 use Rattle.chip_model.specs.Node.{Node, Performed, with_side, request_delivered, arrived_as, message_arrived, request_sent, message_sent, accessed}
@@ -23,7 +23,8 @@ use Rattle.snoop_core.proofs.CacheMaps.{DropsShared, lookup-line, lookup-without
 use Rattle.snoop_core.proofs.Sides.{stale_some}
 use Rattle.snoop_core.proofs.SnoopSteps.{snoop_forms}
 use Rattle.snoop_core.proofs.Completions.{completed_forms}
-use Rattle.snoop_core.proofs.Accesses.{started_by, access_forms, accessed_frame, with_misses}
+use Rattle.snoop_core.proofs.Accesses.{started_by, access_forms, accessed_frame, sent_was, with_misses}
+use Rattle.snoop_core.proofs.Sending.{sent_forms}
 
 -- ---- one change
 pub LinesBelow-without_line : (chip : Chip) (side : CacheSide) (line : ℕ) → LinesBelow chip side
@@ -160,26 +161,30 @@ unfolding data_arrived
 LinesBelow-data_arrived chip side words fits is = for_inside chip side words side.misses.demand refl fits is
 
 -- ---- the request is sent
-sent_inside : (chip : Chip) (side : CacheSide) (demand : Option Demand) (back : Option WriteBack) → side.misses.demand ≡ demand
-    → side.misses.back ≡ back → LinesBelow chip side → LinesBelow chip (with_misses (sent_by demand back) side)
-sent_inside chip side (Some demand) back stands stands_back is = record {
+get_sent_inside : (chip : Chip) (side : CacheSide) → LinesBelow chip side
+    → LinesBelow chip (with_misses (record { demand = sent_demand side.misses.demand; back = side.misses.back }) side)
+get_sent_inside chip side is = record {
   cached = is.cached;
-  demand = λ d now. let same : record demand { sent = true } ≡ d = cc in
-      subst (λ (x : Demand). x.line < chip.lines) same (is.demand demand stands);
-  back = λ b now. is.back b (stands_back ∙ now);
+  demand = λ d now. let was = sent_was side.misses.demand d now in
+      subst (λ (x : Demand). x.line < chip.lines) (sym was.2) (is.demand was.0 was.1);
+  back = is.back;
 }
-sent_inside chip side None (Some back) stands stands_back is = record {
+
+put_sent_inside : (chip : Chip) (side : CacheSide) (back : WriteBack) → side.misses.back ≡ Some back → LinesBelow chip side
+    → LinesBelow chip (with_misses (record { demand = side.misses.demand; back = Some (record back { sent = true }) }) side)
+put_sent_inside chip side back stands is = record {
   cached = is.cached;
-  demand = λ d now. cc;
-  back = λ b now. let same : record back { sent = true } ≡ b = cc in subst (λ (x : WriteBack). x.line < chip.lines) same
-      (is.back back stands_back);
+  demand = is.demand;
+  back = λ b now. let same : record back { sent = true } ≡ b = cc in subst (λ (x : WriteBack). x.line < chip.lines) same (is.back back stands);
 }
-sent_inside chip side None None stands stands_back is = record { cached = is.cached; demand = λ d now. cc; back = λ b now. cc }
 
 pub LinesBelow-marked_sent : (chip : Chip) (side : CacheSide) → LinesBelow chip side
     → LinesBelow chip (with_misses (marked_sent side.misses) side)
 unfolding marked_sent
-LinesBelow-marked_sent chip side is = sent_inside chip side side.misses.demand side.misses.back refl refl is
+LinesBelow-marked_sent chip side is = sent_forms side.misses.demand side.misses.back (λ m. LinesBelow chip (with_misses m side)) (record {
+  get = get_sent_inside chip side is;
+  put = λ back stands. put_sent_inside chip side back stands is;
+})
 
 -- ---- an access
 line_inside : (address lines : ℕ) → address < 4 * lines → line_of address < lines
@@ -208,21 +213,21 @@ wrote_inside chip side line held words there is =
     ∙ ap is_some there in
     LinesBelow-installed chip side (record held { words = words }) (fits_held chip side.cache held.line some) (is.cached held.line some) is
 
-pub LinesBelow-accessed : (kind : AccessKind) (address value : ℕ) (node : Node) (performed : Performed)
-    → accessed kind address value node ≡ Some performed → address < 4 * node.chip.lines
+pub LinesBelow-accessed : (access : Pending) (node : Node) (performed : Performed)
+    → accessed access node ≡ Some performed → access.address < 4 * node.chip.lines
     → SideFits node.chip node.side → LinesBelow node.chip node.side → LinesBelow performed.0.chip performed.0.side
-LinesBelow-accessed kind address value node performed done inside fits is =
-    let here : line_of address < node.chip.lines = line_inside address node.chip.lines inside in
-    let at : (a : ℕ) → line_of a ≡ line_of address → line_of a < node.chip.lines = λ a same. subst (λ (l : ℕ). l < node.chip.lines)
+LinesBelow-accessed access node performed done inside fits is =
+    let here : line_of access.address < node.chip.lines = line_inside access.address node.chip.lines inside in
+    let at : (a : Pending) → line_of a.address ≡ line_of access.address → line_of a.address < node.chip.lines = λ a same. subst (λ (l : ℕ). l < node.chip.lines)
     (sym same) here in
-    access_forms kind address value node performed (λ after. LinesBelow after.chip after.side) fits.cache (record {
+    access_forms access node performed (λ after. LinesBelow after.chip after.side) fits.cache (record {
       hit = is;
-      wrote = λ held there modified words. wrote_inside node.chip node.side (line_of address) held words there is;
-      missed = λ k a v same absent room. LinesBelow-demand node.chip node.side (started_by k a v) (at a same) is;
-      upgraded = λ a v same held there unmodified. LinesBelow-demand node.chip node.side _ (at a same) is;
-      made_room = λ k a v same absent cache drops. LinesBelow-demand node.chip (with_cache cache node.side) (started_by k a v) (at a same)
-          (dropped_inside node.chip node.side (line_of address) cache drops is);
-      put_back = λ held puts queue. put_lines node.chip node.side held puts.there is;
+      wrote = λ held there modified words. wrote_inside node.chip node.side (line_of access.address) held words there is;
+      missed = λ a same apart absent room. LinesBelow-demand node.chip node.side (started_by a) (at a same) is;
+      upgraded = λ a same apart changes held there unmodified. LinesBelow-demand node.chip node.side _ (at a same) is;
+      made_room = λ a same apart absent cache drops. LinesBelow-demand node.chip (with_cache cache node.side) (started_by a) (at a same)
+          (dropped_inside node.chip node.side (line_of access.address) cache drops is);
+      put_back = λ held puts queue alone. put_lines node.chip node.side held puts.there is;
     }) done
 
 -- ---- the records stay those of the same lines
@@ -300,11 +305,11 @@ LinesFit-message_sent node is = record { cached = is.cached; demand = is.demand;
 lines_with : (node : Node) (side : CacheSide) → LinesFit node → LinesBelow node.chip side → LinesFit (with_side side node)
 lines_with node side is now = record { cached = now.cached; demand = now.demand; back = now.back; records = is.records }
 
-pub LinesFit-accessed : (kind : AccessKind) (address value : ℕ) (node : Node) (performed : Performed)
-    → accessed kind address value node ≡ Some performed → address < 4 * node.chip.lines
+pub LinesFit-accessed : (access : Pending) (node : Node) (performed : Performed)
+    → accessed access node ≡ Some performed → access.address < 4 * node.chip.lines
     → SideFits node.chip node.side → LinesFit node → LinesFit performed.0
-LinesFit-accessed kind address value node performed done inside fits is =
-    let now = LinesBelow-accessed kind address value node performed done inside fits (lines_below node is) in
-    let same = accessed_frame kind address value node performed done fits.cache in
+LinesFit-accessed access node performed done inside fits is =
+    let now = LinesBelow-accessed access node performed done inside fits (lines_below node is) in
+    let same = accessed_frame access node performed done fits.cache in
     subst (λ (n : Node). LinesFit n) (sym same)
     (lines_with node performed.0.side is (subst (λ (n : Node). LinesBelow n.chip n.side) same now))

@@ -1,5 +1,5 @@
 -- How many messages a step queues, and how many of these give words back to memory.
-use Rattle.std.proofs.Common.{◌≡◌, ℕ, suc, ◌+◌, ◌≤◌, Bool, true, false, refl, sym, ap, subst, arith, Option, Some, None, List, [], ◌∷◌, ◌++◌, drop, length, set}
+use Rattle.std.proofs.Common.{◌≡◌, ℕ, suc, ◌+◌, ◌≤◌, Bool, true, false, refl, sym, ap, subst, arith, Option, Some, None, List, [], ◌∷◌, ◌++◌, drop, length}
 use Rattle.std.specs.Prelude.{◌==◌, is_some, slice_index_or, count_by, if◌then◌else◌}
 use Rattle.std.proofs.lemmas.Bool.{cond_both, eqb-true}
 use Rattle.std.proofs.lemmas.List.Sums.{sum_by-append}
@@ -10,19 +10,20 @@ use Rattle.mesh_gen.specs.declared.msg.Msg.{Msg}
 use Rattle.mesh_gen.specs.declared.msg_kind.MsgKind.{MsgKind}
 use Rattle.mesh_gen.specs.declared.msg_kind.MsgKind.TheVariants.{Data, Back}
 use Rattle.mesh_gen.specs.Ports.{count_if}
-use Rattle.report_text.specs.declared.access.AccessKind.{AccessKind}
+use Rattle.chip_model.specs.declared.pending.Pending.{Pending}
 use Rattle.chip_model.specs.declared.owner.Owner.{Owner}
 use Rattle.chip_model.specs.declared.owner.Owner.TheVariants.{Memory, Tile}
 use Rattle.chip_model.specs.declared.waiting.Waiting.{Waiting}
-use Rattle.chip_model.specs.Chip.{Chip, home, word_of}
+use Rattle.chip_model.specs.Chip.{Chip, home}
 use Rattle.chip_model.specs.Misses.{Demand, WriteBack, is_getm, sent_by, marked_sent}
-use Rattle.chip_model.specs.Snoop.{CacheSide, Outcome, data_to, data_to_all, completed_load, completed_store, completed, stale_back, ordered_with, own_get, own_put, own_request, snooped_with, snooped, holding, data_at, data_for, data_arrived}
+use Rattle.chip_model.specs.Snoop.{CacheSide, Outcome, written_by, data_to, data_to_all, completed_load, completed_store, completed, stale_back, ordered_with, own_get, own_put, own_request, snooped_with, snooped, holding, data_at, data_for, data_arrived}
 use Rattle.chip_model.specs.Records.{LineRecord, Records, answered_by, from_memory, behind_back, owned_by_tile, answered_at, answered, returned_at, back_arrived}
 use Rattle.chip_model.specs.Node.{Node, Performed, is_back, holds_back, request_delivered, arrived_as, message_arrived, request_sent, message_sent, accessed}
 use Rattle.chip_model.specs.NodeShape.{OneBack, IsCache, SideFits}
 use Rattle.snoop_core.specs.Requests.{MeetsDemand, MeetsOwn, OwnRequestFits}
 use Rattle.miss_table.specs.Table.{list_of}
 use Rattle.snoop_core.proofs.SnoopSteps.{snoop_forms}
+use Rattle.snoop_core.proofs.Sending.{sent_forms}
 use Rattle.snoop_core.proofs.Accesses.{access_forms}
 
 -- how many messages give words back
@@ -89,9 +90,9 @@ stored_sends chip side demand place words =
     let after = completed_store chip demand place words side in
     record {
       count = let n : length after.sends ≡ length demand.list = length-data_to_all demand.line
-          (set words (word_of demand.pending.address) demand.pending.value) demand.list in omega arith;
+          (written_by demand.pending words) demand.list in omega arith;
       backs = let n : backs after.sends ≡ 0 = backs-data_to_all demand.line
-          (set words (word_of demand.pending.address) demand.pending.value) demand.list in omega arith;
+          (written_by demand.pending words) demand.list in omega arith;
     }
 
 completed_sends : (chip : Chip) (side : CacheSide) (demand : Demand) (place : ℕ) (words : List ℕ)
@@ -260,9 +261,10 @@ unfolding message_arrived
 OneBack-message_arrived msg node one = arrived_one msg node msg.kind one
 
 sent_standing : (demand : Option Demand) (back : Option WriteBack) → count_if (is_some (sent_by demand back).back) ≡ count_if (is_some back)
-sent_standing (Some demand) back = refl
-sent_standing None (Some back) = refl
-sent_standing None None = refl
+sent_standing demand back = sent_forms demand back (λ m. count_if (is_some m.back) ≡ count_if (is_some back)) (record {
+  get = refl;
+  put = λ b stands. ap (λ (entry : Option WriteBack). count_if (is_some entry)) (sym stands);
+})
 
 pub OneBack-request_sent : (node : Node) → OneBack node → OneBack (request_sent node)
 unfolding request_sent marked_sent
@@ -285,15 +287,15 @@ no_backs : (out : List Msg) → holds_back out ≡ false → backs out ≡ 0
 no_backs [] none = refl
 no_backs (msg ∷ out) none = grind (arith, no_backs out)
 
-pub OneBack-accessed : (kind : AccessKind) (address value : ℕ) (node : Node) (performed : Performed)
-    → accessed kind address value node ≡ Some performed → IsCache node.chip node.side.cache
+pub OneBack-accessed : (access : Pending) (node : Node) (performed : Performed)
+    → accessed access node ≡ Some performed → IsCache node.chip node.side.cache
     → OneBack node → OneBack performed.0
-OneBack-accessed kind address value node performed done is one = access_forms kind address value node performed (λ after. OneBack after) is
+OneBack-accessed access node performed done is one = access_forms access node performed (λ after. OneBack after) is
     (record {
       hit = one;
       wrote = λ held there modified words. one;
-      missed = λ k a v same absent room. one;
-      upgraded = λ a v same held there unmodified. one;
-      made_room = λ k a v same absent cache drops. one;
-      put_back = λ held puts queue. let none = no_backs node.out queue in omega arith;
+      missed = λ a same apart absent room. one;
+      upgraded = λ a same apart changes held there unmodified. one;
+      made_room = λ a same apart absent cache drops. one;
+      put_back = λ held puts queue alone. let none = no_backs node.out queue in omega arith;
     }) done

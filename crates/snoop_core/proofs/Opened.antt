@@ -75,7 +75,6 @@ homes_kept chip tile records fit = λ line below. (
 pub NodeFits-opened : (chip : Chip) (tile : ℕ) (records : Records) → KeepsHomes chip tile records → NodeFits (node_of (opening_side chip) tile records [] 0)
 NodeFits-opened chip tile records homes = record {
   side = SideFits-opening_side chip;
-  one = inl refl;
   back = omega arith;
   lines = record {
     cached = λ line there. absurd (both_ways (is_some (lookup chip (empty_cache chip) line)) (ap is_some (lookup-empty chip line)) there);

@@ -6,7 +6,7 @@ use Rattle.mesh_gen.specs.declared.kind.Kind.{Kind}
 use Rattle.mesh_gen.specs.declared.kind.Kind.TheVariants.{GetS, GetM, PutM}
 use Rattle.mesh_gen.specs.declared.request.Request.{Request}
 use Rattle.report_text.specs.declared.access.AccessKind.{AccessKind}
-use Rattle.report_text.specs.declared.access.AccessKind.TheVariants.{Load, Store}
+use Rattle.report_text.specs.declared.access.AccessKind.TheVariants.{Load, Store, Swap, Add}
 use Rattle.chip_model.specs.Chip.{Chip}
 use Rattle.chip_model.specs.Cache.{Held, Cache, lookup}
 use Rattle.chip_model.specs.Misses.{Demand, WriteBack, is_getm, request_for}
@@ -27,6 +27,8 @@ not_owned (Some held) none unmodified = grind arith
 reads_or_writes : (kind : AccessKind) → is_getm (request_for kind) ≡ false → request_for kind ≡ GetS
 reads_or_writes Load reads = refl
 reads_or_writes Store reads = cc
+reads_or_writes Swap reads = cc
+reads_or_writes Add reads = cc
 
 pub is_gets : (chip : Chip) (cache : Cache) (demand : Demand) → DemandFits chip cache demand → is_getm demand.kind ≡ false
     → demand.kind ≡ GetS
@@ -68,6 +70,7 @@ ordered_fits chip side demand place sent lacks is = record {
   unordered = λ none. cc;
   reads = is.reads;
   writes = is.writes;
+  gone = is.gone;
 }
 
 -- ---- the demand's own request

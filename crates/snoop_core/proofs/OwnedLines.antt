@@ -14,12 +14,7 @@ use Rattle.chip_model.specs.Snoop.{CacheSide, with_demand, line_gone, made_owned
 use Rattle.chip_model.specs.Ownership.{is_owned_copy, is_live_back, is_open_write, owns}
 use Rattle.chip_model.specs.NodeShape.{SideFits}
 use Rattle.snoop_core.proofs.CacheMaps.{lookup-without_line, lookup-installed, fits_held}
-use Rattle.snoop_core.proofs.SnoopSteps.{MeetsOrdered, IsUnowned, snoop_forms}
-
-pub ends_in_getm-append : (list : List Waiting) (last : Waiting) → ends_in_getm (list ++ last ∷ []) ≡ is_getm last.kind
-ends_in_getm-append [] last = refl
-ends_in_getm-append (first ∷ []) last = refl
-ends_in_getm-append (first ∷ next ∷ rest) last = ends_in_getm-append (next ∷ rest) last
+use Rattle.snoop_core.proofs.SnoopSteps.{ends_in_getm-append, MeetsOrdered, IsUnowned, snoop_forms}
 
 -- ---- what owns a line beside a copy in the cache
 pub not_live_other : (line : ℕ) (entry : Option WriteBack) → ((back : WriteBack) → entry ≡ Some back → (back.line == line) ≡ false)

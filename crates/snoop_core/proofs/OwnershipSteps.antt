@@ -1,21 +1,20 @@
 -- Which lines a cache side owns after its own requests, words that come, accesses, and a request that is sent.
 use Rattle.std.proofs.Common.{◌≡◌, ◌≢◌, ℕ, Bool, true, false, refl, sym, ◌∙◌, ap, subst, arith, Option, Some, None, List, []}
-use Rattle.std.specs.Prelude.{◌==◌, ◌&&◌, not, is_some, if◌then◌else◌}
+use Rattle.std.specs.Prelude.{◌||◌, ◌==◌, ◌&&◌, not, is_some, if◌then◌else◌}
 use Rattle.std.proofs.lemmas.Bool.{cond_both, eqb-true}
 use Rattle.std.proofs.lemmas.Bool.Decides.{nat_tests}
 use Rattle.std.proofs.lemmas.Option.{same_Some}
 use Rattle.mesh_gen.specs.declared.kind.Kind.{Kind}
 use Rattle.mesh_gen.specs.declared.kind.Kind.TheVariants.{GetS, GetM, PutM}
 use Rattle.mesh_gen.specs.declared.request.Request.{Request}
-use Rattle.report_text.specs.declared.access.AccessKind.{AccessKind}
-use Rattle.report_text.specs.declared.access.AccessKind.TheVariants.{Store}
+use Rattle.chip_model.specs.declared.pending.Pending.{Pending}
 use Rattle.chip_model.specs.declared.line_state.State.{State}
 use Rattle.chip_model.specs.declared.line_state.State.TheVariants.{M, S}
 use Rattle.chip_model.specs.declared.owner.Owner.{Owner}
 use Rattle.chip_model.specs.declared.owner.Owner.TheVariants.{Memory, Tile}
 use Rattle.chip_model.specs.Chip.{Chip}
 use Rattle.chip_model.specs.Cache.{Held, Cache, is_shared, lookup, installed, without_line}
-use Rattle.chip_model.specs.Misses.{Demand, WriteBack, is_getm, ends_in_getm, new_back, sent_by, marked_sent}
+use Rattle.chip_model.specs.Misses.{Demand, WriteBack, is_getm, ends_in_getm, new_back, sent_demand, sent_by, marked_sent}
 use Rattle.chip_model.specs.Snoop.{CacheSide, with_demand, with_back, with_cache, line_gone, completed, words_here, ordered_with, own_get, own_put, own_request, snooped_with, snooped, holding, data_at, data_for, data_arrived}
 use Rattle.chip_model.specs.Node.{Node, Performed, accessed}
 use Rattle.chip_model.specs.Ownership.{is_tile, owner_after, is_owned_copy, is_live_back, is_open_write, owns}
@@ -24,6 +23,7 @@ use Rattle.snoop_core.specs.Requests.{MeetsDemand, MeetsBack, MeetsOwn, OwnReque
 use Rattle.snoop_core.proofs.CacheMaps.{DropsShared, PutsBack, lookup-line, lookup-without_line, lookup-installed, fits_held}
 use Rattle.snoop_core.proofs.Completions.{with_copy, completed_forms}
 use Rattle.snoop_core.proofs.OwnRequests.{is_gets}
+use Rattle.snoop_core.proofs.Sending.{sent_forms}
 use Rattle.snoop_core.proofs.Accesses.{started_by, access_forms, accessed_free, with_misses}
 use Rattle.snoop_core.proofs.OwnedLines.{not_live_other, not_open_other, other_demand, OwnsAfterOther, owns-snooped_with, owns-demand}
 
@@ -301,11 +301,11 @@ unfolding data_arrived
 owns-data_arrived chip side words line is = owns-data_for chip side words side.misses.demand line refl is
 
 -- ---- nor does an access
-owns-started : (chip : Chip) (side : CacheSide) (cache : Cache) (kind : AccessKind) (address value m : ℕ) → side.misses.demand ≡ None
+owns-started : (chip : Chip) (side : CacheSide) (cache : Cache) (access : Pending) (m : ℕ) → side.misses.demand ≡ None
     → is_owned_copy (lookup chip cache m) ≡ is_owned_copy (lookup chip side.cache m)
-    → owns chip (with_demand (Some (started_by kind address value)) (with_cache cache side)) m ≡ owns chip side m
+    → owns chip (with_demand (Some (started_by access)) (with_cache cache side)) m ≡ owns chip side m
 unfolding owns
-owns-started chip side cache kind address value m none same =
+owns-started chip side cache access m none same =
     let before : is_open_write m side.misses.demand ≡ false = ap (is_open_write m) none in
     grind (arith, same, before)
 
@@ -335,32 +335,42 @@ owns-put_back chip side held m none puts =
     let before : is_live_back m side.misses.back ≡ false = ap (is_live_back m) none in
     grind (arith, nat_tests, now, before, puts.there, puts.owned)
 
-pub owns-accessed : (kind : AccessKind) (address value : ℕ) (node : Node) (performed : Performed)
-    → accessed kind address value node ≡ Some performed → SideFits node.chip node.side
+pub owns-accessed : (access : Pending) (node : Node) (performed : Performed)
+    → accessed access node ≡ Some performed → SideFits node.chip node.side
     → (line : ℕ) → owns performed.0.chip performed.0.side line ≡ owns node.chip node.side line
-owns-accessed kind address value node performed done is line =
-    let free = accessed_free kind address value node performed done in
-    access_forms kind address value node performed (λ after. owns after.chip after.side line ≡ owns node.chip node.side line) is.cache
+owns-accessed access node performed done is line =
+    let free = accessed_free access node performed done in
+    access_forms access node performed (λ after. owns after.chip after.side line ≡ owns node.chip node.side line) is.cache
     (record {
       hit = refl;
       wrote = λ held there modified words. owns-wrote node.chip node.side _ held words line there modified;
-      missed = λ k a v at absent room. owns-started node.chip node.side node.side.cache k a v line free.0 refl;
-      upgraded = λ a v at held there unmodified. owns-started node.chip node.side node.side.cache Store a v line free.0 refl;
-      made_room = λ k a v at absent cache drops. owns-started node.chip node.side cache k a v line free.0
+      missed = λ a at apart absent room. owns-started node.chip node.side node.side.cache a line free refl;
+      upgraded = λ a at apart changes held there unmodified. owns-started node.chip node.side node.side.cache a line free refl;
+      made_room = λ a at apart absent cache drops. owns-started node.chip node.side cache a line free
           (dropped_same node.chip _ node.side.cache cache line drops);
-      put_back = λ held puts queue. owns-put_back node.chip node.side held line free.1 puts;
+      put_back = λ held puts queue alone. owns-put_back node.chip node.side held line alone puts;
     }) done
 
 -- ---- nor does it that the request is sent
-owns-sent_by : (chip : Chip) (side : CacheSide) (demand : Option Demand) (back : Option WriteBack) (m : ℕ) → side.misses.demand ≡ demand
-    → side.misses.back ≡ back
-    → owns chip (with_misses (sent_by demand back) side) m ≡ owns chip side m
+open_sent : (m : ℕ) (entry : Option Demand) → is_open_write m (sent_demand entry) ≡ is_open_write m entry
+open_sent m None = refl
+open_sent m (Some demand) = refl
+
+live_sent : (m : ℕ) (entry : Option WriteBack) (back : WriteBack) → entry ≡ Some back
+    → is_live_back m (Some (record back { sent = true })) ≡ is_live_back m entry
+live_sent m entry back stands = ap (is_live_back m) (sym stands)
+
+owns-sent_by : (chip : Chip) (side : CacheSide) (m : ℕ)
+    → owns chip (with_misses (sent_by side.misses.demand side.misses.back) side) m ≡ owns chip side m
 unfolding owns
-owns-sent_by chip side (Some demand) back m stands stands_back = rw (stands, stands_back) refl
-owns-sent_by chip side None (Some back) m stands stands_back = rw (stands, stands_back) refl
-owns-sent_by chip side None None m stands stands_back = rw (stands, stands_back) refl
+owns-sent_by chip side m =
+    let copy = is_owned_copy (lookup chip side.cache m) in
+    sent_forms side.misses.demand side.misses.back (λ misses. (copy || is_live_back m misses.back || is_open_write m misses.demand) ≡ (copy || is_live_back m side.misses.back || is_open_write m side.misses.demand)) (record {
+      get = ap (λ (b : Bool). copy || is_live_back m side.misses.back || b) (open_sent m side.misses.demand);
+      put = λ back stands. ap (λ (b : Bool). copy || b || is_open_write m side.misses.demand) (live_sent m side.misses.back back stands);
+    })
 
 pub owns-marked_sent : (chip : Chip) (side : CacheSide) (line : ℕ)
     → owns chip (with_misses (marked_sent side.misses) side) line ≡ owns chip side line
 unfolding marked_sent
-owns-marked_sent chip side line = owns-sent_by chip side side.misses.demand side.misses.back line refl refl
+owns-marked_sent chip side line = owns-sent_by chip side line

@@ -5,15 +5,16 @@ use Rattle.std.proofs.lemmas.Bool.{cond_both}
 use Rattle.mesh_gen.specs.declared.kind.Kind.{Kind}
 use Rattle.mesh_gen.specs.declared.kind.Kind.TheVariants.{GetS, GetM, PutM}
 use Rattle.mesh_gen.specs.declared.request.Request.{Request}
-use Rattle.report_text.specs.declared.access.AccessKind.{AccessKind}
+use Rattle.chip_model.specs.declared.pending.Pending.{Pending}
 use Rattle.chip_model.specs.Chip.{Chip}
-use Rattle.chip_model.specs.Misses.{Demand, WriteBack, Misses, sent_by, marked_sent}
+use Rattle.chip_model.specs.Misses.{Demand, WriteBack, Misses, sent_demand, sent_by, marked_sent}
 use Rattle.chip_model.specs.Snoop.{CacheSide, ordered_with, own_get, own_put, own_request, snooped_with, snooped, holding, completed, data_at, data_for, data_arrived}
 use Rattle.chip_model.specs.Node.{Node, Performed, accessed}
 use Rattle.chip_model.specs.NodeShape.{IsCache}
 use Rattle.snoop_core.specs.Nodes.{IsPlaced}
 use Rattle.snoop_core.proofs.SnoopSteps.{snoop_forms}
 use Rattle.snoop_core.proofs.Completions.{completed_forms}
+use Rattle.snoop_core.proofs.Sending.{sent_forms}
 use Rattle.snoop_core.proofs.Accesses.{access_forms}
 
 -- a demand with the place of one that stood
@@ -102,22 +103,28 @@ unfolding data_arrived
 IsPlaced-data_arrived chip side words n placed = for_placed chip side words n side.misses.demand refl placed
 
 -- ---- an access, and a request that is sent
-pub IsPlaced-accessed : (kind : AccessKind) (address value : ℕ) (node : Node) (performed : Performed) (n : ℕ) → accessed kind address value node ≡ Some performed → IsCache node.chip node.side.cache
+pub IsPlaced-accessed : (access : Pending) (node : Node) (performed : Performed) (n : ℕ) → accessed access node ≡ Some performed → IsCache node.chip node.side.cache
     → IsPlaced node.side.misses n → IsPlaced performed.0.side.misses n
-IsPlaced-accessed kind address value node performed n done is placed =
-    access_forms kind address value node performed (λ after. IsPlaced after.side.misses n) is (record {
+IsPlaced-accessed access node performed n done is placed =
+    access_forms access node performed (λ after. IsPlaced after.side.misses n) is (record {
       hit = placed;
       wrote = λ held there modified words. placed;
-      missed = λ k a v at absent room. new_placed _ node.side.misses.back n refl;
-      upgraded = λ a v at held there unmodified. new_placed _ node.side.misses.back n refl;
-      made_room = λ k a v at absent cache drops. new_placed _ node.side.misses.back n refl;
-      put_back = λ held puts queue. placed;
+      missed = λ a at apart absent room. new_placed _ node.side.misses.back n refl;
+      upgraded = λ a at apart changes held there unmodified. new_placed _ node.side.misses.back n refl;
+      made_room = λ a at apart absent cache drops. new_placed _ node.side.misses.back n refl;
+      put_back = λ held puts queue alone. placed;
     }) done
 
+get_sent_placed : (demand : Option Demand) (back : Option WriteBack) (n : ℕ) → IsPlaced (record { demand = demand; back = back }) n
+    → IsPlaced (record { demand = sent_demand demand; back = back }) n
+get_sent_placed None back n placed = none_placed back n
+get_sent_placed (Some demand) back n placed = same_place (record { demand = Some demand; back = back }) n demand (record demand { sent = true }) back refl refl placed
+
 sent_placed : (demand : Option Demand) (back : Option WriteBack) (n : ℕ) → IsPlaced (record { demand = demand; back = back }) n → IsPlaced (sent_by demand back) n
-sent_placed (Some demand) back n placed = same_place (record { demand = Some demand; back = back }) n demand (record demand { sent = true }) back refl refl placed
-sent_placed None (Some back) n placed = none_placed (Some (record back { sent = true })) n
-sent_placed None None n placed = none_placed None n
+sent_placed demand back n placed = sent_forms demand back (λ misses. IsPlaced misses n) (record {
+  get = get_sent_placed demand back n placed;
+  put = λ b stands. placed;
+})
 
 pub IsPlaced-marked_sent : (misses : Misses) (n : ℕ) → IsPlaced misses n → IsPlaced (marked_sent misses) n
 unfolding marked_sent

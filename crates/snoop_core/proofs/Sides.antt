@@ -26,6 +26,7 @@ DemandFits-without_line chip cache demand line is = record {
   unordered = is.unordered;
   reads = is.reads;
   writes = is.writes;
+  gone = λ ends. grind (arith, nat_tests, lookup-without_line chip cache line demand.line, is.gone ends);
 }
 
 pub SideFits-without_line : (chip : Chip) (side : CacheSide) (line : ℕ) → SideFits chip side → SideFits chip (line_gone chip line side)
@@ -57,6 +58,7 @@ DemandFits-owned chip cache demand line held words there owned is =
       unordered = is.unordered;
       reads = is.reads;
       writes = is.writes;
+      gone = λ ends. grind (arith, nat_tests, now, there, is.gone ends);
     }
 
 pub SideFits-owned : (chip : Chip) (side : CacheSide) (line : ℕ) (held : Held) (words : List ℕ) → lookup chip side.cache line ≡ Some held

@@ -1,17 +1,19 @@
 -- Another tile's request: what it leaves of the cache side, case by case.
-use Rattle.std.proofs.Common.{◌≡◌, ℕ, true, false, refl, sym, subst, arith, Some, None, [], ◌∷◌, ◌++◌}
+use Rattle.std.proofs.Common.{◌≡◌, ◌∙◌, ℕ, true, false, refl, sym, ap, subst, arith, Some, None, List, [], ◌∷◌, ◌++◌}
+use Rattle.std.proofs.lemmas.Bool.Decides.{nat_tests}
 use Rattle.std.specs.Prelude.{is_some}
 use Rattle.mesh_gen.specs.declared.kind.Kind.{Kind}
 use Rattle.mesh_gen.specs.declared.kind.Kind.TheVariants.{GetS, GetM, PutM}
 use Rattle.mesh_gen.specs.declared.request.Request.{Request}
 use Rattle.chip_model.specs.declared.waiting.Waiting.{Waiting}
 use Rattle.chip_model.specs.Chip.{Chip}
-use Rattle.chip_model.specs.Cache.{Held, Cache, is_shared, lookup}
+use Rattle.chip_model.specs.Cache.{Held, Cache, is_shared, lookup, without_line}
 use Rattle.chip_model.specs.Misses.{Demand, WriteBack, is_getm, ends_in_getm}
 use Rattle.chip_model.specs.Snoop.{CacheSide, Outcome, Holding, quiet, supplies, line_gone, made_owned, made_stale, waits_behind, serves_once, snooped_with, holding, live_for, ordered_for}
 use Rattle.chip_model.specs.Ownership.{is_owned_copy, is_live_back, is_open_write}
 use Rattle.chip_model.specs.NodeShape.{DemandFits, SideFits}
 use Rattle.snoop_core.proofs.Sides.{SideFits-without_line, SideFits-owned, SideFits-demand, SideFits-stale}
+use Rattle.snoop_core.proofs.CacheMaps.{lookup-without_line}
 use Rattle.snoop_core.proofs.HoldingCases.{holding_forms, live_is, ordered_is, not_live, not_open_none, not_open_ended}
 
 -- an ordered demand for the line, where the node has no owned copy of it and no live write-back
@@ -115,11 +117,16 @@ pub snoop_forms : (chip : Chip) (side : CacheSide) (q : Request) (P : Outcome �
     → P (snooped_with chip q side (holding chip side q.line) q.kind)
 snoop_forms chip side q P forms = snoop_by chip side q q.kind P refl forms
 
+pub ends_in_getm-append : (list : List Waiting) (last : Waiting) → ends_in_getm (list ++ last ∷ []) ≡ is_getm last.kind
+ends_in_getm-append [] last = refl
+ends_in_getm-append (first ∷ []) last = refl
+ends_in_getm-append (first ∷ next ∷ rest) last = ends_in_getm-append (next ∷ rest) last
+
 -- ---- the shape of a demand behind which one more waits, and of one whose words serve once
 listed_fits : (chip : Chip) (cache : Cache) (demand : Demand) (waiting : Waiting) → is_some demand.ordered ≡ true
-    → is_getm demand.kind ≡ true
+    → is_getm demand.kind ≡ true → (is_getm waiting.kind ≡ true → lookup chip cache demand.line ≡ None)
     → DemandFits chip cache demand → DemandFits chip cache (record demand { list = demand.list ++ waiting ∷ [] })
-listed_fits chip cache demand waiting ordered writes is = record {
+listed_fits chip cache demand waiting ordered writes left is = record {
   asks = is.asks;
   line = is.line;
   room = is.room;
@@ -131,6 +138,7 @@ listed_fits chip cache demand waiting ordered writes is = record {
   unordered = λ none. grind (arith, ordered, none);
   reads = λ read. grind (arith, writes, read);
   writes = is.writes;
+  gone = λ ends. left (sym (ends_in_getm-append demand.list waiting) ∙ ends);
 }
 
 once_fits : (chip : Chip) (cache : Cache) (demand : Demand) → is_some demand.ordered ≡ true → is_getm demand.kind ≡ false
@@ -147,15 +155,17 @@ once_fits chip cache demand ordered reads is = record {
   unordered = λ none. grind (arith, ordered, none);
   reads = is.reads;
   writes = λ write. grind (arith, reads, write);
+  gone = is.gone;
 }
 
 SideFits-listed : (chip : Chip) (side : CacheSide) (q : Request) (demand : Demand) → side.misses.demand ≡ Some demand
     → is_some demand.ordered ≡ true → is_getm demand.kind ≡ true
+    → (is_getm q.kind ≡ true → lookup chip side.cache demand.line ≡ None)
     → SideFits chip side → SideFits chip (waits_behind q demand side)
-SideFits-listed chip side q demand stands ordered writes is =
+SideFits-listed chip side q demand stands ordered writes left is =
     let waiting : Waiting = record { tile = q.source; kind = q.kind } in
     SideFits-demand chip side demand
-    (record demand { list = demand.list ++ waiting ∷ [] }) stands refl (listed_fits chip side.cache demand waiting ordered writes
+    (record demand { list = demand.list ++ waiting ∷ [] }) stands refl (listed_fits chip side.cache demand waiting ordered writes left
     (is.demand demand stands)) is
 
 SideFits-once : (chip : Chip) (side : CacheSide) (demand : Demand) → side.misses.demand ≡ Some demand → is_some demand.ordered ≡ true
@@ -164,6 +174,9 @@ SideFits-once : (chip : Chip) (side : CacheSide) (demand : Demand) → side.miss
 SideFits-once chip side demand stands ordered reads is =
     SideFits-demand chip side demand
     (record demand { once = true }) stands refl (once_fits chip side.cache demand ordered reads (is.demand demand stands)) is
+
+gone_now : (chip : Chip) (side : CacheSide) (at line : ℕ) → at ≡ line → lookup chip (without_line chip line side.cache) at ≡ None
+gone_now chip side at line same = grind (arith, nat_tests, lookup-without_line chip side.cache line at, same)
 
 -- another tile's request keeps the shape
 pub SideFits-snooped_with : (chip : Chip) (side : CacheSide) (q : Request) → SideFits chip side
@@ -174,9 +187,11 @@ SideFits-snooped_with chip side q is = snoop_forms chip side q (λ outcome. Side
   copy_written = λ kind held there owned. SideFits-without_line chip side q.line is;
   back_read = λ kind back. is;
   back_written = λ kind copy back stands line. SideFits-stale chip side is;
-  list_read = λ kind demand meets writes goes_on. SideFits-listed chip side q demand meets.stands meets.ordered writes is;
+  list_read = λ kind demand meets writes goes_on. SideFits-listed chip side q demand meets.stands meets.ordered writes
+      (λ getm. let no : false ≡ true = sym (ap is_getm kind) ∙ getm in cc) is;
   list_written = λ kind demand meets writes goes_on.
       SideFits-listed chip (line_gone chip q.line side) q demand meets.stands meets.ordered writes
+      (λ getm. gone_now chip side demand.line q.line meets.at)
       (SideFits-without_line chip side q.line is);
   read = λ kind. is;
   once = λ kind demand meets reads. SideFits-once chip side demand meets.stands meets.ordered reads is;

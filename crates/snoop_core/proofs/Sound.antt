@@ -4,7 +4,7 @@ use Rattle.mesh_gen.specs.declared.request.Request.{Request}
 use Rattle.mesh_gen.specs.declared.msg.Msg.{Msg}
 use Rattle.mesh_gen.specs.declared.msg_kind.MsgKind.{MsgKind}
 use Rattle.mesh_gen.specs.declared.msg_kind.MsgKind.TheVariants.{Data, Back}
-use Rattle.report_text.specs.declared.access.AccessKind.{AccessKind}
+use Rattle.chip_model.specs.declared.pending.Pending.{Pending}
 use Rattle.chip_model.specs.Chip.{tile_count}
 use Rattle.chip_model.specs.Node.{Node, Performed, request_delivered, arrived_as, message_arrived, request_sent, message_sent, accessed}
 use Rattle.snoop_core.specs.Requests.{OwnRequestFits, DataFits}
@@ -40,17 +40,17 @@ IsSound-message_arrived msg node fits is = record {
   placed = arrived_placed msg node msg.kind is.placed;
 }
 
-pub IsSound-accessed : (kind : AccessKind) (address value : ℕ) (node : Node) (performed : Performed)
-    → accessed kind address value node ≡ Some performed → address < 4 * node.chip.lines
+pub IsSound-accessed : (access : Pending) (node : Node) (performed : Performed)
+    → accessed access node ≡ Some performed → access.address < 4 * node.chip.lines
     → IsSound node → IsSound performed.0
-IsSound-accessed kind address value node performed done inside is =
+IsSound-accessed access node performed done inside is =
     let cache = is.fits.side.cache in
     record {
-      tile = subst (λ (n : Node). n.tile < tile_count n.chip) (sym (accessed_frame kind address value node performed done cache)) is.tile;
-      fits = NodeFits-accessed kind address value node performed done inside is.fits;
+      tile = subst (λ (n : Node). n.tile < tile_count n.chip) (sym (accessed_frame access node performed done cache)) is.tile;
+      fits = NodeFits-accessed access node performed done inside is.fits;
       placed = subst (λ (after : Node). IsPlaced performed.0.side.misses after.delivered)
-          (sym (accessed_frame kind address value node performed done cache))
-          (IsPlaced-accessed kind address value node performed node.delivered done cache is.placed);
+          (sym (accessed_frame access node performed done cache))
+          (IsPlaced-accessed access node performed node.delivered done cache is.placed);
     }
 
 pub IsSound-request_sent : (node : Node) → IsSound node → IsSound (request_sent node)

@@ -13,9 +13,10 @@ use Rattle.chip_model.specs.Misses.{Demand, WriteBack, Misses, is_getm, ends_in_
 use Rattle.chip_model.specs.Snoop.{CacheSide, Outcome, Holding as ModelHolding, OwnedCopy as HasOwnedCopy, LiveBack as HasLiveBack, OpenWrite as HasOpenWrite, OpenRead as HasOpenRead, SharedCopy as HasSharedCopy, Nothing as HasNothing, holding_demand, holding_unowned, live_for, ordered_for, holding, snooped_with}
 use Rattle.chip_model.specs.NodeShape.{SideFits}
 use Rattle.line_cache.specs.Sets.{HasSets, Fits, copy_of}
-use Rattle.miss_table.specs.declared.look.Look.TheVariants.{Empty, Demand as DemandLook, WriteBack as BackLook}
-use Rattle.miss_table.specs.Table.{HasOneAtMost, Holds, IsLive, IsOrderedRead, TakesOneMore}
-use Rattle.miss_table.specs.Looks.{look_of}
+use Rattle.miss_table.specs.declared.look.DemandLook.{DemandLook}
+use Rattle.miss_table.specs.declared.look.BackLook.{BackLook}
+use Rattle.miss_table.specs.Table.{Holds, IsLive, IsOrderedRead, TakesOneMore}
+use Rattle.miss_table.specs.Looks.{demand_look, back_look}
 use Rattle.snoop_core.specs.declared.snoop.Holding.{Holding}
 use Rattle.snoop_core.specs.declared.snoop.Holding.TheVariants.{OwnedCopy, LiveBack, OpenWrite, OpenRead, SharedCopy, Nothing}
 use Rattle.snoop_core.specs.ChipSides.{ChipSide, left_by, met_by}
@@ -24,64 +25,60 @@ use Rattle.snoop_core.proofs.CacheMaps.{fits_held}
 use Rattle.snoop_core.proofs.HoldingCases.{holding_forms, IsLiveBack, live_is, holding_open_write, holding_open_read}
 use Rattle.snoop_core.proofs.OwnRequests.{is_gets}
 use Rattle.snoop_core.proofs.Completing.{left}
-use Rattle.snoop_core.proofs.Seen.{sees_demand, sees_back, sees_nothing, alone}
+use Rattle.snoop_core.proofs.Seen.{sees_demand, sees_back}
 
 -- ---- by the write-back or the demand that stands
-pub live_here : (misses : Misses) (line own : ℕ) (words : List ℕ) (live sent shared : Bool) → look_of misses ≡ BackLook own words live sent → live ≡ true → own ≡ line
-    → LiveBack words ≡ told (holding_unowned shared (live_for line misses.back) (ordered_for line misses.demand))
-live_here misses line own words live sent shared is alive here =
-    let seen = sees_back misses own words live sent is in
-    let stands = seen.stands in
-    let back_words : LiveBack words ≡ LiveBack seen.back.words = ap LiveBack (sym seen.words_is) in
-    let back_line : seen.back.line ≡ line = seen.line_is ∙ here in
-    let back_live : seen.back.live ≡ true = seen.live_is ∙ alive in
-    let some : live_for line (Some seen.back) ≡ Some seen.back = grind (arith, nat_tests, back_line, back_live) in
-    rw (stands, some) back_words
+pub live_here : (entry : Option WriteBack) (line : ℕ) (look : BackLook) → option_map back_look entry ≡ Some look → look.live ≡ true → look.line ≡ line
+    → (back : WriteBack) × (live_for line entry ≡ Some back) × (back.words ≡ look.words)
+live_here entry line look is live at =
+    let seen = sees_back entry look is in
+    let own : seen.back.line ≡ line = ap (λ (l : BackLook). l.line) seen.looks ∙ at in
+    let lives : seen.back.live ≡ true = ap (λ (l : BackLook). l.live) seen.looks ∙ live in
+    let some : live_for line (Some seen.back) ≡ Some seen.back = grind (arith, nat_tests, own, lives) in
+    (seen.back, ap (live_for line) seen.stands ∙ some, ap (λ (l : BackLook). l.words) seen.looks)
 
-pub no_demand : (misses : Misses) (line own : ℕ) (words : List ℕ) (live sent shared : Bool) → look_of misses ≡ BackLook own words live sent → ((live ≡ true) × (own ≡ line → ⊥)) ⊎ (live ≡ false)
-    → holding_unowned shared None None ≡ holding_unowned shared (live_for line misses.back) (ordered_for line misses.demand)
-no_demand misses line own words live sent shared is apart =
-    let seen = sees_back misses own words live sent is in
-    let stands = seen.stands in
-    let alone = seen.alone in
-    let back_line = seen.line_is in
-    let back_live = seen.live_is in
-    let none : live_for line (Some seen.back) ≡ None = grind (arith, nat_tests, back_line, back_live) in
-    rw (alone, stands, none) refl
+pub not_live_here : (entry : Option WriteBack) (line : ℕ) (look : BackLook) → option_map back_look entry ≡ Some look
+    → ((look.live ≡ true) × (look.line ≡ line → ⊥)) ⊎ (look.live ≡ false) → live_for line entry ≡ None
+not_live_here entry line look is apart =
+    let seen = sees_back entry look is in
+    let own : seen.back.line ≡ look.line = ap (λ (l : BackLook). l.line) seen.looks in
+    let lives : seen.back.live ≡ look.live = ap (λ (l : BackLook). l.live) seen.looks in
+    ap (live_for line) seen.stands ∙ grind (arith, nat_tests, own, lives)
 
-pub demand_here : (misses : Misses) (line own : ℕ) (kind : Kind) (pending : Pending) (sent : Bool) (early : Option (List ℕ)) (once empty ends shared : Bool) (ordered : Option ℕ) (answer : Holding)
-    → HasOneAtMost misses → look_of misses ≡ DemandLook kind own pending sent ordered early once empty ends → is_some ordered ≡ true → own ≡ line
-    → ((demand : Demand) → demand.kind ≡ kind → ends_in_getm demand.list ≡ ends → answer ≡ told (holding_demand demand))
-    → answer ≡ told (holding_unowned shared (live_for line misses.back) (ordered_for line misses.demand))
-demand_here misses line own kind pending sent early once empty ends shared ordered answer one is placed here tells =
-    let seen = sees_demand misses kind own pending sent ordered early once empty ends is in
-    let stands = seen.stands in
-    let no_back = alone misses seen.demand one seen.stands in
-    let demand_line : seen.demand.line ≡ line = seen.line_is ∙ here in
-    let demand_ordered : is_some seen.demand.ordered ≡ true = ap is_some seen.ordered_is ∙ placed in
-    let told_of : answer ≡ told (holding_demand seen.demand) = tells seen.demand seen.kind_is seen.ends_is in
-    let ordered_is : ordered_for line (Some seen.demand) ≡ Some seen.demand = grind (arith, nat_tests, demand_line, demand_ordered) in
-    rw (no_back, stands, ordered_is) told_of
+pub ordered_here : (entry : Option Demand) (line : ℕ) (look : DemandLook) → option_map demand_look entry ≡ Some look → is_some look.ordered ≡ true → look.line ≡ line
+    → (demand : Demand) × (ordered_for line entry ≡ Some demand) × (demand_look demand ≡ look)
+ordered_here entry line look is placed at =
+    let seen = sees_demand entry look is in
+    let own : seen.demand.line ≡ line = ap (λ (l : DemandLook). l.line) seen.looks ∙ at in
+    let ordered : is_some seen.demand.ordered ≡ true = ap (λ (l : DemandLook). is_some l.ordered) seen.looks ∙ placed in
+    let some : ordered_for line (Some seen.demand) ≡ Some seen.demand = grind (arith, nat_tests, own, ordered) in
+    (seen.demand, ap (ordered_for line) seen.stands ∙ some, seen.looks)
 
-pub no_back : (misses : Misses) (line own : ℕ) (kind : Kind) (pending : Pending) (sent : Bool) (early : Option (List ℕ)) (once empty ends shared : Bool) (ordered : Option ℕ)
-    → HasOneAtMost misses → look_of misses ≡ DemandLook kind own pending sent ordered early once empty ends → ((is_some ordered ≡ true) × (own ≡ line → ⊥)) ⊎ (is_some ordered ≡ false)
-    → holding_unowned shared None None ≡ holding_unowned shared (live_for line misses.back) (ordered_for line misses.demand)
-no_back misses line own kind pending sent early once empty ends shared ordered one is apart =
-    let seen = sees_demand misses kind own pending sent ordered early once empty ends is in
-    let stands = seen.stands in
-    let no_write_back = alone misses seen.demand one seen.stands in
-    let demand_line = seen.line_is in
-    let demand_ordered : is_some seen.demand.ordered ≡ is_some ordered = ap is_some seen.ordered_is in
-    let none : ordered_for line (Some seen.demand) ≡ None = grind (arith, nat_tests, demand_line, demand_ordered) in
-    rw (no_write_back, stands, none) refl
+pub not_ordered_here : (entry : Option Demand) (line : ℕ) (look : DemandLook) → option_map demand_look entry ≡ Some look
+    → ((is_some look.ordered ≡ true) × (look.line ≡ line → ⊥)) ⊎ (is_some look.ordered ≡ false) → ordered_for line entry ≡ None
+not_ordered_here entry line look is apart =
+    let seen = sees_demand entry look is in
+    let own : seen.demand.line ≡ look.line = ap (λ (l : DemandLook). l.line) seen.looks in
+    let ordered : is_some seen.demand.ordered ≡ is_some look.ordered = ap (λ (l : DemandLook). is_some l.ordered) seen.looks in
+    ap (ordered_for line) seen.stands ∙ grind (arith, nat_tests, own, ordered)
 
-pub nothing_here : (misses : Misses) (line : ℕ) (shared : Bool) → look_of misses ≡ Empty
-    → holding_unowned shared None None ≡ holding_unowned shared (live_for line misses.back) (ordered_for line misses.demand)
-nothing_here misses line shared is =
-    let seen = sees_nothing misses is in
-    let no_demand = seen.0 in
-    let no_back = seen.1 in
-    rw (no_demand, no_back) refl
+-- what is told where a live write-back counts, and where none does
+pub told_back : (shared : Bool) (live : Option WriteBack) (demand : Option Demand) (back : WriteBack) (words : List ℕ) → live ≡ Some back → back.words ≡ words
+    → LiveBack words ≡ told (holding_unowned shared live demand)
+told_back shared live demand back words stands is =
+    ap LiveBack (sym is) ∙ ap (λ (l : Option WriteBack). told (holding_unowned shared l demand)) (sym stands)
+
+pub told_past_back : (shared : Bool) (live : Option WriteBack) (demand : Option Demand) (answer : Holding) → live ≡ None
+    → answer ≡ told (holding_unowned shared None demand) → answer ≡ told (holding_unowned shared live demand)
+told_past_back shared live demand answer none is = is ∙ ap (λ (l : Option WriteBack). told (holding_unowned shared l demand)) (sym none)
+
+pub told_demand : (shared : Bool) (entry : Option Demand) (demand : Demand) (answer : Holding) → entry ≡ Some demand
+    → answer ≡ told (holding_demand demand) → answer ≡ told (holding_unowned shared None entry)
+told_demand shared entry demand answer stands is = is ∙ ap (λ (d : Option Demand). told (holding_unowned shared None d)) (sym stands)
+
+pub told_copy : (shared : Bool) (entry : Option Demand) (answer : Holding) → entry ≡ None
+    → answer ≡ told (holding_unowned shared None None) → answer ≡ told (holding_unowned shared None entry)
+told_copy shared entry answer none is = is ∙ ap (λ (d : Option Demand). told (holding_unowned shared None d)) (sym none)
 
 -- ---- by the copy
 pub holds_owned : (chip : Chip) (side : CacheSide) (line : ℕ) (copy : State × List ℕ) → lookup chip side.cache line ≡ Some (copy_of line copy) → is_shared copy.0 ≡ false

@@ -1,7 +1,7 @@
 ghost use Rattle.std.specs.Prelude.{◌≡◌, ◌*◌, ◌<◌, ◌≤◌, ◌++◌, ℕ, List, Option, Some, length, slice_get};
 ghost use Rattle.mesh_gen.specs.declared.request.Request.{Request};
 ghost use Rattle.mesh_gen.specs.declared.msg.Msg.{Msg};
-ghost use Rattle.report_text.specs.declared.access.AccessKind.{AccessKind};
+ghost use Rattle.chip_model.specs.declared.pending.Pending.{Pending};
 ghost use Rattle.chip_model.specs.declared.owner.Owner.{Owner};
 ghost use Rattle.chip_model.specs.Chip.{Chip};
 ghost use Rattle.chip_model.specs.Snoop.{CacheSide, snooped, data_arrived};
@@ -17,8 +17,8 @@ pub fn node_laws()
         → NodeFits (request_delivered q node).0 }
     ensures arrived { (msg : Msg) (node : Node) → DataFits node.side msg → NodeFits node
         → NodeFits (message_arrived msg node).0 }
-    ensures accessed { (kind : AccessKind) (address value : ℕ) (node : Node) (performed : Performed)
-        → accessed kind address value node ≡ Some performed → address < 4 * node.chip.lines → NodeFits node
+    ensures accessed { (access : Pending) (node : Node) (performed : Performed)
+        → accessed access node ≡ Some performed → access.address < 4 * node.chip.lines → NodeFits node
         → NodeFits performed.0 }
     ensures asked { (node : Node) → NodeFits node → NodeFits (request_sent node) }
     ensures sent { (node : Node) → NodeFits node → NodeFits (message_sent node) }
@@ -44,8 +44,8 @@ pub fn ownership_laws()
         → OwnsByOrder ordered node → OwnsByOrder ordered (request_delivered q node).0 }
     ensures arrived { (ordered : List Request) (msg : Msg) (node : Node) → SideFits node.chip node.side
         → OwnsByOrder ordered node → OwnsByOrder ordered (message_arrived msg node).0 }
-    ensures accessed { (ordered : List Request) (kind : AccessKind) (address value : ℕ) (node : Node) (performed : Performed)
-        → accessed kind address value node ≡ Some performed → SideFits node.chip node.side
+    ensures accessed { (ordered : List Request) (access : Pending) (node : Node) (performed : Performed)
+        → accessed access node ≡ Some performed → SideFits node.chip node.side
         → OwnsByOrder ordered node → OwnsByOrder ordered performed.0 }
     ensures asked { (ordered : List Request) (node : Node) → OwnsByOrder ordered node → OwnsByOrder ordered (request_sent node) }
     ensures sent { (ordered : List Request) (node : Node) → OwnsByOrder ordered node → OwnsByOrder ordered (message_sent node) }

@@ -14,6 +14,3 @@ pub use chip_model::{Done, Owner, State};
 pub use laws::{node_laws, ownership_laws};
 pub use node::Node;
 pub use outcome::Outcome;
-
-#[cfg(test)]
-mod tests;

@@ -68,13 +68,14 @@ impl Snooper {
         ensures sent { out.new ≡ out.old ++ (own_put_of self.old).sends }
     {
         if let Some(back) = self.back() {
+            let (line, words) = (back.line, back.words);
             self.misses.finish_back();
             if back.live {
                 out.push(Msg {
-                    to: self.mesh.home(back.line),
+                    to: self.mesh.home(line),
                     kind: MsgKind::Back,
-                    line: back.line,
-                    words: back.words,
+                    line,
+                    words,
                 });
             }
         }

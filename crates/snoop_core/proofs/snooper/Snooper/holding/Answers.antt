@@ -15,12 +15,12 @@ returns-in-M c =
 
 pub returns-in-S : goal.returns-in-S
 returns-in-S c =
-    c.unowned.ensures c.args.self.now.side.misses c.look.ensures.one c.look.ensures.entry
+    c.unowned.ensures c.args.self.now.side.misses c.back.ensures c.demand.ensures
     ∙ ap told (holds_shared c.args.self.now.chip c.args.self.now.side c.args.line c.in-Some.copy
     (c.lookup.ensures.copy ∙ ap (λ (o : Option (State × List ℕ)). option_map (copy_of c.args.line) o) c.in-Some.is) (ap is_shared c.in-S.is))
 
 pub returns-in-None : goal.returns-in-None
 returns-in-None c =
-    c.unowned-in-None.ensures c.args.self.now.side.misses c.look-in-None.ensures.one c.look-in-None.ensures.entry
+    c.unowned-in-None.ensures c.args.self.now.side.misses c.back-in-None.ensures c.demand-in-None.ensures
     ∙ ap told (holds_none c.args.self.now.chip c.args.self.now.side c.args.line
     (c.lookup.ensures.copy ∙ ap (λ (o : Option (State × List ℕ)). option_map (copy_of c.args.line) o) c.in-None.is))
