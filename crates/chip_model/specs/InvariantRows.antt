@@ -11,7 +11,7 @@ use Rattle.mesh_gen.specs.declared.msg.Msg.{Msg}
 use Rattle.mesh_gen.specs.declared.msg_kind.MsgKind.{MsgKind}
 use Rattle.mesh_gen.specs.declared.msg_kind.MsgKind.TheVariants.{Data, Back}
 use Rattle.vc_bank.specs.Places.{slots, at, put, weigh}
-use Rattle.core_isa.specs.declared.instr.Instr.TheVariants.{Li, Addi, Ld, St}
+use Rattle.core_isa.specs.declared.instr.Instr.TheVariants.{Li, Addi, Ld, St, Swap, Fadd}
 use Rattle.core_isa.specs.Core.{loaded}
 use Rattle.report_text.specs.declared.event.Event.{Event}
 use Rattle.order_tracker.specs.Order.{upwards}
@@ -42,7 +42,8 @@ use Rattle.mesh_gen.specs.Ports.{count_if}
 use Rattle.chip_model.specs.Bookkeeping.{count_by_tile, is_get_of}
 use Rattle.chip_model.specs.Suppliers.{has_early, is_ordered, place_of_get, next_given_back, is_fresh_by, is_to_come, answers_to_come, backs_under_way, backs_to_come, last_given_back, waiters_behind}
 use Rattle.chip_model.specs.Values.{place_of_shared}
-use Rattle.chip_model.specs.Rows.{store_buffering, dirty_eviction, swept_from_first}
+use Rattle.chip_model.specs.Rows.{store_buffering, dirty_eviction, swept_from_first, swept_report}
+use Rattle.chip_model.specs.Reports.{report_of}
 
 abbrev same : Bool → Bool → Bool
 same a b = if a then b else not b
@@ -194,3 +195,22 @@ pub contention_holds : (let s = swept_from_first contention 1000000 80 in
     × (finished s ≡ true))
 unfolding digits x_of y_of has without_port has_tile tree_outs slots at put weigh loaded set_number posted ticked taken_by entered hopped local_place served sent next_channel forwarded received injected request_posted network_ticked vector_taken expected_at copy_hopped delivered_next lookup has_room installed without_line without_shared lowest_for wanted marked_sent holding snooped data_arrived answered back_arrived request_delivered message_arrived request_sent message_sent accessed core_event in_order finished unit_at step after run owner_after owner owns witness line_value chip_slots sweeps
 contention_holds = (refl, refl, refl)
+
+-- two tiles count in two lines that share a way: adds and swaps that miss while a line is written back
+abbrev pub counting_beside : Doc
+counting_beside = record contention {
+  memory = 3 ∷ 0 ∷ 0 ∷ 0 ∷ 9 ∷ 0 ∷ 0 ∷ 0 ∷ [];
+  programs = (Li 1 1 ∷ Fadd 1 0 0 ∷ Li 2 2 ∷ Fadd 2 0 4 ∷ Li 3 3 ∷ Fadd 3 0 0 ∷ Swap 3 0 5 ∷ []) ∷ (Li 1 10 ∷ Fadd 1 0 0 ∷ Li 2 20 ∷ Fadd 2 0 4 ∷ Swap 2 0 1 ∷ []) ∷ [];
+}
+
+pub counting_beside_holds : (let s = swept_from_first counting_beside 1000000 80 in
+    (along counting_beside (Some (opening counting_beside)) s.journal ≡ true)
+    × (beside_along counting_beside (Some (opening counting_beside)) s.journal ≡ true)
+    × (finished s ≡ true))
+unfolding digits x_of y_of has without_port has_tile tree_outs slots at put weigh loaded set_number posted ticked taken_by entered hopped local_place served sent next_channel forwarded received injected request_posted network_ticked vector_taken expected_at copy_hopped delivered_next lookup has_room installed without_line without_shared lowest_for wanted marked_sent holding snooped data_arrived answered back_arrived request_delivered message_arrived request_sent message_sent accessed core_event in_order finished unit_at step after run owner_after owner owns witness line_value chip_slots sweeps
+counting_beside_holds = (refl, refl, refl)
+
+pub counting_beside_counts : (let r = swept_report counting_beside 1000000 80 in
+    slice_index_or r.memory 0 0 ∷ slice_index_or r.memory 4 0 ∷ [] ≡ 17 ∷ 31 ∷ [])
+unfolding digits x_of y_of has without_port has_tile tree_outs slots at put weigh loaded set_number posted ticked taken_by entered hopped local_place served sent next_channel forwarded received injected request_posted network_ticked vector_taken expected_at copy_hopped delivered_next lookup has_room installed without_line without_shared lowest_for wanted marked_sent holding snooped data_arrived answered back_arrived request_delivered message_arrived request_sent message_sent accessed core_event in_order finished unit_at step after run owner_after owner owns witness line_value chip_slots sweeps report_of
+counting_beside_counts = refl

@@ -1,5 +1,5 @@
 -- Runs of small chips by the stated schedule, and what they print: theorems that compute.
-use Rattle.std.specs.Prelude.{◌≡◌, ℕ, List, [], ◌∷◌, Some, option_map, replicate, length, take, codes, refl}
+use Rattle.std.specs.Prelude.{◌≡◌, ℕ, ◌+◌, List, [], ◌∷◌, map, Some, option_map, replicate, length, take, codes, refl}
 use Rattle.std.specs.Fmt.{digits}
 use Rattle.mesh_gen.specs.Grid.{x_of, y_of}
 use Rattle.mesh_gen.specs.Ports.{has, without_port}
@@ -7,8 +7,10 @@ use Rattle.mesh_gen.specs.TileSet.{has_tile}
 use Rattle.mesh_gen.specs.Tree.{tree_outs}
 use Rattle.mesh_gen.specs.declared.port.Port.TheVariants.{L}
 use Rattle.vc_bank.specs.Places.{slots, at, put}
-use Rattle.core_isa.specs.declared.instr.Instr.TheVariants.{Li, Addi, Ld, St, Tid, Halt}
+use Rattle.core_isa.specs.declared.instr.Instr.TheVariants.{Li, Addi, Ld, St, Swap, Fadd, Tid, Halt}
 use Rattle.core_isa.specs.Core.{loaded}
+use Rattle.report_text.specs.declared.access.Access.{Access}
+use Rattle.report_text.specs.declared.access.AccessKind.TheVariants.{Add}
 use Rattle.report_text.specs.declared.event.Event.{Event}
 use Rattle.report_text.specs.declared.event.Event.TheVariants.{Tick, Core, Inject, Post, Take, Eject, Send, DataEject}
 use Rattle.report_text.specs.declared.report.Report.{Report}
@@ -210,6 +212,36 @@ false_sharing = record {
   posts = [];
 }
 
+-- an add and a swap of one word, which the core of the only tile reads and writes at one time
+abbrev pub read_and_written : Doc
+read_and_written = record one_tile {
+  memory = 10 ∷ replicate 3 0;
+  programs = (Li 1 3 ∷ Fadd 1 0 0 ∷ Swap 1 0 0 ∷ Halt ∷ []) ∷ [];
+}
+
+abbrev pub read_and_written_text : List ℕ
+read_and_written_text = text_of (
+    codes "requests 1"
+    ∷ codes "q 0 0 0 GetM 0"
+    ∷ codes "seen 1"
+    ∷ codes "s 0 1 3"
+    ∷ codes "accesses 2"
+    ∷ codes "a 0 1 fa 0 13 1 10"
+    ∷ codes "a 0 2 sw 0 10 1 13"
+    ∷ codes "memory 1"
+    ∷ codes "m 0 10 0 0 0"
+    ∷ codes "windows 1"
+    ∷ codes "hops 0"
+    ∷ codes "journal 11" ∷ [])
+
+-- four tiles count with one word
+abbrev pub counting : Doc
+counting = record false_sharing { programs = replicate 4 (Li 1 1 ∷ Fadd 1 0 0 ∷ []) }
+
+-- the accesses: each tile finds the count of those before it
+abbrev pub counted : ℕ → Access
+counted t = record { tile = t; number = 1; kind = Add; address = 0; value = t + 1; time = t + 1; old = t }
+
 pub one_tile_prints :
     (option_map (λ s. report_text (report_of one_tile s)) (run in_order (chip_of one_tile) (opening one_tile) one_tile_events) ≡ Some one_tile_text)
     × (report_text (swept_report one_tile 1000000 20) ≡ one_tile_text)
@@ -235,3 +267,13 @@ false_sharing_ends = (refl, refl, refl, refl)
 
 pub one_tile_bound : bound one_tile ≡ 80
 one_tile_bound = refl
+
+pub read_and_written_prints :
+    Begins (swept_report read_and_written 1000000 20) read_and_written_text
+unfolding digits x_of y_of has without_port has_tile tree_outs slots at put loaded set_number posted ticked taken_by entered hopped local_place served sent next_channel forwarded received injected request_posted network_ticked vector_taken expected_at copy_hopped delivered_next lookup has_room installed without_line without_shared lowest_for wanted marked_sent holding snooped data_arrived answered back_arrived request_delivered message_arrived request_sent message_sent accessed core_event in_order finished unit_at step after run owner_after owner witness report_of chip_slots sweeps
+read_and_written_prints = refl
+
+pub counting_ends : (let r = swept_report counting 1000000 60 in
+    (r.accesses ≡ map counted (0 ∷ 1 ∷ 2 ∷ 3 ∷ [])) × (r.windows ≡ 1) × (r.hops ≡ 12) × (r.memory ≡ 4 ∷ 0 ∷ 0 ∷ 0 ∷ []))
+unfolding digits x_of y_of has without_port has_tile tree_outs slots at put loaded set_number posted ticked taken_by entered hopped local_place served sent next_channel forwarded received injected request_posted network_ticked vector_taken expected_at copy_hopped delivered_next lookup has_room installed without_line without_shared lowest_for wanted marked_sent holding snooped data_arrived answered back_arrived request_delivered message_arrived request_sent message_sent accessed core_event in_order finished unit_at step after run owner_after owner witness report_of chip_slots sweeps
+counting_ends = (refl, refl, refl, refl)

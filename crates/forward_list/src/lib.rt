@@ -8,6 +8,3 @@ mod places;
 pub use chip_model::Waiting;
 pub use forward_list::{ForwardList, LIST_PLACES};
 pub use out_queue::{OutQueue, QUEUE_PLACES};
-
-#[cfg(test)]
-mod tests;

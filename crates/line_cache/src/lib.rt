@@ -8,6 +8,3 @@ mod ways;
 
 pub use chip_model::{State, Victim};
 pub use line_cache::LineCache;
-
-#[cfg(test)]
-mod tests;

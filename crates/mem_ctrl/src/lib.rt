@@ -7,6 +7,3 @@ mod record;
 
 pub use chip_model::Owner;
 pub use controller::Controller;
-
-#[cfg(test)]
-mod tests;

@@ -173,7 +173,10 @@ fn a_store_asks_for_its_line(rt: HostRuntime) -> Result<(), Fail> {
 fn words_go_on_to_all_that_wait(rt: HostRuntime) -> Result<(), Fail> {
     let mut node = storing_and_read(rt.alloc())?;
     assert_eq!(rt; node.on_request(request_of(0, 3, 0, Kind::GetM)), None);
-    assert_eq!(rt; node.on_data(words_for(0, 0, [1, 2, 3, 4])), done(AccessKind::Store, 0, 5, 1, 0));
+    assert_eq!(rt;
+        node.on_data(words_for(0, 0, [1, 2, 3, 4])),
+        done(AccessKind::Store, 0, 5, 1, 0)
+    );
     assert_eq!(rt; node.line(0), None);
     assert_eq!(rt; node.next_out(), Some(words_for(1, 0, STORED)));
     node.drop_out();
@@ -192,7 +195,10 @@ fn an_upgrade_that_is_overtaken_waits(rt: HostRuntime) -> Result<(), Fail> {
     assert_eq!(rt; node.next_out(), Some(words_for(3, 0, STORED)));
     assert_eq!(rt; node.line(0), None);
     assert_eq!(rt; node.on_request(request_of(0, 0, 1, Kind::GetM)), None);
-    assert_eq!(rt; node.on_data(words_for(0, 0, [5, 2, 9, 4])), done(AccessKind::Store, 1, 8, 5, 0));
+    assert_eq!(rt;
+        node.on_data(words_for(0, 0, [5, 2, 9, 4])),
+        done(AccessKind::Store, 1, 8, 5, 0)
+    );
     assert_eq!(rt; node.line(0), Some((State::M, [5, 8, 9, 4])));
     Ok(())
 }
@@ -200,7 +206,10 @@ fn an_upgrade_that_is_overtaken_waits(rt: HostRuntime) -> Result<(), Fail> {
 #[test]
 fn an_upgrade_completes_with_its_own_words(rt: HostRuntime) -> Result<(), Fail> {
     let mut node = upgrading(rt.alloc())?;
-    assert_eq!(rt; node.on_request(request_of(0, 0, 1, Kind::GetM)), done(AccessKind::Store, 1, 8, 4, 0));
+    assert_eq!(rt;
+        node.on_request(request_of(0, 0, 1, Kind::GetM)),
+        done(AccessKind::Store, 1, 8, 4, 0)
+    );
     assert_eq!(rt; node.next_out(), None);
     assert_eq!(rt; node.line(0), Some((State::M, [5, 8, 3, 4])));
     Ok(())
@@ -211,7 +220,10 @@ fn words_that_come_late_serve_once(rt: HostRuntime) -> Result<(), Fail> {
     let mut node = reading(rt.alloc())?;
     assert_eq!(rt; node.on_request(request_of(0, 1, 0, Kind::GetS)), None);
     assert_eq!(rt; node.on_request(request_of(0, 0, 0, Kind::GetM)), None);
-    assert_eq!(rt; node.on_data(words_for(1, 0, [7, 0, 0, 0])), done(AccessKind::Load, 0, 7, 1, 0));
+    assert_eq!(rt;
+        node.on_data(words_for(1, 0, [7, 0, 0, 0])),
+        done(AccessKind::Load, 0, 7, 1, 0)
+    );
     assert_eq!(rt; node.line(0), None);
     assert_eq!(rt; node.access(AccessKind::Load, 0, 0), Ok(Outcome::Started));
     Ok(())
@@ -221,9 +233,17 @@ fn words_that_come_late_serve_once(rt: HostRuntime) -> Result<(), Fail> {
 fn words_that_come_early_wait(rt: HostRuntime) -> Result<(), Fail> {
     let mut node = reading(rt.alloc())?;
     assert_eq!(rt; node.on_data(words_for(1, 0, [7, 0, 0, 0])), None);
-    assert_eq!(rt; node.on_request(request_of(0, 1, 0, Kind::GetS)), done(AccessKind::Load, 0, 7, 1, 0));
+    assert_eq!(rt;
+        node.on_request(request_of(0, 1, 0, Kind::GetS)),
+        done(AccessKind::Load, 0, 7, 1, 0)
+    );
     assert_eq!(rt; node.line(0), Some((State::S, [7, 0, 0, 0])));
-    assert_eq!(rt; node.access(AccessKind::Load, 0, 0), done(AccessKind::Load, 0, 7, 1, 0).map(Outcome::Hit).ok_or(NotEnabled));
+    assert_eq!(rt;
+        node.access(AccessKind::Load, 0, 0),
+        done(AccessKind::Load, 0, 7, 1, 0)
+            .map(Outcome::Hit)
+            .ok_or(NotEnabled)
+    );
     Ok(())
 }
 
@@ -272,7 +292,10 @@ fn a_write_back_beside_a_miss_sends_its_words(rt: HostRuntime) -> Result<(), Fai
 fn a_miss_beside_a_write_back_completes(rt: HostRuntime) -> Result<(), Fail> {
     let mut node = written_back(rt.alloc())?;
     assert_eq!(rt; node.on_request(request_of(1, 0, 2, Kind::GetS)), None);
-    assert_eq!(rt; node.on_data(words_for(0, 1, [6, 0, 0, 0])), done(AccessKind::Load, 4, 6, 3, 0));
+    assert_eq!(rt;
+        node.on_data(words_for(0, 1, [6, 0, 0, 0])),
+        done(AccessKind::Load, 4, 6, 3, 0)
+    );
     assert_eq!(rt; node.line(1), Some((State::S, [6, 0, 0, 0])));
     Ok(())
 }
@@ -292,7 +315,12 @@ fn a_stale_write_back_beside_a_miss_ends(rt: HostRuntime) -> Result<(), Fail> {
 #[test]
 fn a_swap_hits_the_only_copy(rt: HostRuntime) -> Result<(), Fail> {
     let mut node = modified(rt.alloc())?;
-    assert_eq!(rt; node.access(AccessKind::Swap, 0, 9), done(AccessKind::Swap, 0, 9, 1, 5).map(Outcome::Hit).ok_or(NotEnabled));
+    assert_eq!(rt;
+        node.access(AccessKind::Swap, 0, 9),
+        done(AccessKind::Swap, 0, 9, 1, 5)
+            .map(Outcome::Hit)
+            .ok_or(NotEnabled)
+    );
     assert_eq!(rt; node.line(0), Some((State::M, [9, 2, 3, 4])));
     Ok(())
 }

@@ -37,7 +37,11 @@ pub(crate) fn written(mut words: Words, access: Pending) -> Words
 fn old_word(kind: AccessKind, word: u32) -> u32
     ensures { result ≡ old_word kind word }
 {
-    if kind.reads() && kind.writes() { word } else { 0 }
+    if kind.reads() && kind.writes() {
+        word
+    } else {
+        0
+    }
 }
 
 /// What an access did at a time, by the words that were there.

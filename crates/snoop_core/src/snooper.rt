@@ -50,7 +50,11 @@ fn line_in(mesh: &Mesh, address: u32) -> u16
 fn request_for(kind: AccessKind) -> Kind
     ensures { result ≡ request_for kind }
 {
-    if kind.writes() { Kind::GetM } else { Kind::GetS }
+    if kind.writes() {
+        Kind::GetM
+    } else {
+        Kind::GetS
+    }
 }
 
 impl Snooper {

@@ -7,6 +7,7 @@ use Rattle.chip_model.specs.Snoop.{holding, snooped, data_arrived}
 use Rattle.chip_model.specs.Records.{answered, back_arrived}
 use Rattle.chip_model.specs.Node.{Node, accessed, request_delivered, message_arrived, request_sent, message_sent}
 use Rattle.chip_model.specs.NodeRows.{access, writing_back}
+use Rattle.node_tests.proofs.Trials.{kept_by}
 use Rattle.node_tests.proofs.nodes.a_miss_starts_beside_a_write_back.Goals as goal
 
 pub access-requires : goal.access-requires

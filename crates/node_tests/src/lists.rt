@@ -1,4 +1,5 @@
-use super::*;
+//! The calls of the lists of a node.
+use forward_list::{ForwardList, OutQueue};
 use mesh_gen::{Kind, Msg, MsgKind};
 
 #[test]

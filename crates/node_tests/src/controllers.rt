@@ -1,8 +1,9 @@
+//! The calls of a memory controller.
 ghost use Rattle.std.specs.Prelude.{◌≡◌, [], ◌∷◌, IfOk};
 ghost use Rattle.chip_model.specs.Records.{opening_record};
 
-use super::*;
 use forward_list::OutQueue;
+use mem_ctrl::{Controller, Owner};
 use mesh_gen::{Items, Kind, Mesh, Msg, MsgKind, NoMemory, Request, Words};
 use std::alloc::Global;
 use std::test::Fail;
@@ -96,5 +97,21 @@ fn words_come_back_after_the_put(rt: HostRuntime) -> Result<(), Fail> {
         Some((Owner::Tile(2), BACK, false))
     );
     assert_eq!(rt; controller.home_record(1), None);
+    Ok(())
+}
+
+#[test]
+#[tactic(auto, unfolding(chip_model::specs::Records::answered, chip_model::specs::Records::back_arrived))]
+fn a_stale_put_changes_nothing(rt: HostRuntime) -> Result<(), Fail> {
+    let mut controller = open(rt.alloc())?;
+    let mut out = OutQueue::new();
+    controller.on_request(request(0, Kind::GetM), &mut out);
+    let mut out = OutQueue::new();
+    controller.on_request(request(2, Kind::GetM), &mut out);
+    let owned = Some((Owner::Tile(2), [1, 2, 3, 4], false));
+    assert_eq!(rt; controller.home_record(0), owned);
+    controller.on_request(request(0, Kind::PutM), &mut out);
+    assert_eq!(rt; controller.home_record(0), owned);
+    assert_eq!(rt; out.front(), None);
     Ok(())
 }

@@ -1,0 +1,2 @@
+pub mod LastTile
+pub mod Trials
