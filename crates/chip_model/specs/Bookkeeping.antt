@@ -14,6 +14,7 @@ use Rattle.chip_model.specs.Misses.{Misses, Demand, WriteBack, is_getm}
 use Rattle.chip_model.specs.Node.{Node}
 use Rattle.chip_model.specs.Ownership.{owner, is_tile, delivered_to}
 
+-- a request that asks for words
 abbrev pub is_get : Kind → Bool
 is_get GetS = true
 is_get GetM = true
@@ -35,9 +36,11 @@ AreMadeBy t made = (n : ℕ) (q : Request) → slice_get made n ≡ Some q → (
 abbrev pub asked_for : List Request → List (Kind × ℕ)
 asked_for requests = map (λ (q : Request). (q.kind, q.line)) requests
 
+-- the gets, and the write-backs, among requests
 abbrev pub gets_among : List Request → List Request
 gets_among requests = filter (λ (q : Request). is_get q.kind) requests
 
+-- the write-backs among requests
 abbrev pub puts_among : List Request → List Request
 puts_among requests = filter (λ (q : Request). not (is_get q.kind)) requests
 
@@ -46,6 +49,7 @@ abbrev pub get_under_way : Option Demand → List (Kind × ℕ)
 get_under_way None = []
 get_under_way (Some demand) = if demand.sent && is_none demand.ordered then (demand.kind, demand.line) ∷ [] else []
 
+-- the request that a write-back has on its way: it is sent
 abbrev pub put_under_way : Option WriteBack → List (Kind × ℕ)
 put_under_way None = []
 put_under_way (Some back) = if back.sent then (PutM, back.line) ∷ [] else []
@@ -71,6 +75,7 @@ pub record IsOrderedAt (ordered : List Request) (node : Node) (demand : Demand) 
   pub unowned : is_tile node.tile (owner demand.line (take place ordered)) ≡ false
   pub alone : filter (is_get_of node.tile) (between place node.delivered ordered) ≡ []
 
+-- what the node and the interface of a tile say of its requests agrees with the order and with each other
 pub record TileAgrees (net : OrderedNetwork) (t : ℕ) (interface : Interface) (node : Node) : Type 0 where
   pub tile : node.tile ≡ t
   pub counts : node.delivered ≡ interface.delivered
@@ -100,6 +105,7 @@ abbrev pub up_to_getm : List Request → List Request
 up_to_getm [] = []
 up_to_getm (q ∷ rest) = if is_getm q.kind then q ∷ [] else q ∷ up_to_getm rest
 
+-- the tiles of requests, each with what it asks for
 abbrev pub waiting_for : List Request → List Waiting
 waiting_for requests = map (λ (q : Request). record { tile = q.source; kind = q.kind }) requests
 
@@ -108,6 +114,7 @@ pub record IsFollowed (ordered : List Request) (node : Node) (demand : Demand) (
   pub once : demand.kind ≡ GetS → demand.once ≡ list_any (λ (q : Request). is_getm q.kind) (gets_of_others node.tile demand.line (between place node.delivered ordered))
   pub list : demand.kind ≡ GetM → demand.list ≡ waiting_for (up_to_getm (gets_of_others node.tile demand.line (between place node.delivered ordered)))
 
+-- an ordered demand has what the requests after it have made of it
 abbrev pub DemandIsFollowed : List Request → Node → Type 0
 DemandIsFollowed ordered node = (demand : Demand) (place : ℕ) → node.side.misses.demand ≡ Some demand → demand.ordered ≡ Some place → IsFollowed ordered node demand place
 

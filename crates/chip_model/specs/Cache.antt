@@ -6,20 +6,25 @@ use Rattle.chip_model.specs.declared.victim.Victim.{Victim}
 use Rattle.chip_model.specs.declared.victim.Victim.TheVariants.{Empty, DropS, Put}
 use Rattle.chip_model.specs.Chip.{Chip, set_number}
 
+-- a copy of a line: its state and its words
 pub record Held : Type 0 where
   pub line : ℕ
   pub state : State
   pub words : List ℕ
 
+-- the ways of a set
 abbrev pub Ways : Type 0
 Ways = List (Option Held)
 
+-- the sets of a cache
 abbrev pub Cache : Type 0
 Cache = List Ways
 
+-- a cache that holds no line
 abbrev pub empty_cache : Chip → Cache
 empty_cache chip = replicate chip.sets (replicate chip.ways None)
 
+-- a copy that others own
 abbrev pub is_shared : State → Bool
 is_shared S = true
 is_shared M = false
@@ -31,6 +36,7 @@ found line [] = None
 found line (None ∷ ways) = found line ways
 found line (Some held ∷ ways) = if held.line == line then Some held else found line ways
 
+-- a way is empty
 abbrev pub has_empty : Ways → Bool
 has_empty [] = false
 has_empty (None ∷ ways) = true
@@ -73,6 +79,7 @@ lowest (way ∷ ways) = way
 abbrev pub ways_for : Chip → Cache → ℕ → Ways
 ways_for chip cache line = slice_index_or cache (set_number chip line) []
 
+-- the cache with other ways in the set of a line
 abbrev pub with_ways : Chip → ℕ → Ways → Cache → Cache
 with_ways chip line ways cache = set cache (set_number chip line) ways
 
@@ -88,9 +95,11 @@ has_room chip cache line = has_empty (ways_for chip cache line)
 unfoldable pub fits : Chip → Cache → ℕ → Bool
 fits chip cache line = is_some (lookup chip cache line) || has_room chip cache line
 
+-- the cache with a copy put into its set
 unfoldable pub installed : Chip → Held → Cache → Cache
 installed chip new cache = with_ways chip new.line (placed new (ways_for chip cache new.line)) cache
 
+-- the cache without the copy of a line
 unfoldable pub without_line : Chip → ℕ → Cache → Cache
 without_line chip line cache = with_ways chip line (emptied line (ways_for chip cache line)) cache
 
@@ -105,19 +114,23 @@ lowest_for chip line cache = lowest (ways_for chip cache line)
 -- What leaves a full set before one more line comes in: its lowest shared line, and where none is shared the line of its
 -- lowest way.
 
+-- the line of the lowest way that is shared
 abbrev pub lowest_shared : Ways → Option ℕ
 lowest_shared [] = None
 lowest_shared (None ∷ ways) = lowest_shared ways
 lowest_shared (Some held ∷ ways) = if is_shared held.state then Some held.line else lowest_shared ways
 
+-- the victim that has to be written back
 abbrev pub put_of : Option Held → Victim
 put_of None = Empty
 put_of (Some held) = Put held.line
 
+-- the shared line where there is one, and else what the lowest way holds
 abbrev pub victim_among : Option ℕ → Option Held → Victim
 victim_among (Some line) lowest = DropS line
 victim_among None lowest = put_of lowest
 
+-- the victim among the ways of a set
 abbrev pub victim_of : Ways → Victim
 victim_of ways = if has_empty ways then Empty else victim_among (lowest_shared ways) (lowest ways)
 

@@ -20,6 +20,7 @@ two_ways = record {
   controllers = 0 ∷ [];
 }
 
+-- a cache with one more copy
 abbrev pub with_copy : ℕ → State → Cache → Cache
 with_copy line state cache = installed two_ways (record { line = line; state = state; words = 5 ∷ 2 ∷ 3 ∷ 4 ∷ [] }) cache
 
@@ -27,9 +28,11 @@ with_copy line state cache = installed two_ways (record { line = line; state = s
 abbrev pub owned_and_shared : Cache
 owned_and_shared = with_copy 1 S (with_copy 0 M (empty_cache two_ways))
 
+-- the same with both lines owned
 abbrev pub both_owned : Cache
 both_owned = with_copy 1 O owned_and_shared
 
+-- the same without the first line
 abbrev pub one_owned : Cache
 one_owned = without_line two_ways 0 both_owned
 
@@ -37,10 +40,12 @@ one_owned = without_line two_ways 0 both_owned
 abbrev pub leaving : Cache → Victim
 leaving cache = victim two_ways cache 2
 
+-- the victim of each of these caches
 pub leaving_one_by_one : leaving owned_and_shared ∷ leaving both_owned ∷ leaving one_owned ∷ [] ≡ DropS 1 ∷ Put 0 ∷ Empty ∷ []
 unfolding victim installed without_line set_number
 leaving_one_by_one = refl
 
+-- what the last one holds
 pub copies_left : lookup two_ways one_owned 0 ∷ lookup two_ways one_owned 1 ∷ [] ≡ None ∷ Some (record { line = 1; state = O; words = 5 ∷ 2 ∷ 3 ∷ 4 ∷ [] }) ∷ []
 unfolding lookup installed without_line set_number
 copies_left = refl

@@ -30,6 +30,7 @@ chip_of_mesh mesh = record {
   controllers = mesh.controllers;
 }
 
+-- the chip of a description
 abbrev pub chip_of : Doc → Chip
 chip_of d = record {
   grid = record { cols = d.cols; rows = d.rows };
@@ -42,6 +43,7 @@ chip_of d = record {
   controllers = d.controllers;
 }
 
+-- how many tiles the chip has
 abbrev pub tile_count : Chip → ℕ
 tile_count chip = tiles chip.grid
 
@@ -61,5 +63,6 @@ address_in chip sum = sum % (4 * chip.lines)
 abbrev pub line_of : ℕ → ℕ
 line_of address = address / 4
 
+-- the place of an address in its line
 abbrev pub word_of : ℕ → ℕ
 word_of address = address % 4

@@ -30,6 +30,7 @@ pub record UnitHolds (CoreHolds : ChipState → ℕ → UnitState → Type 0) (d
   pub fresh : RecordsAreFresh s unit.node
   pub waiters : WaitersAreGets s unit.node
 
+-- what holds of the network and of the replies
 pub record NetworkHolds (d : Doc) (s : ChipState) : Type 0 where
   pub channels : HasChannels (chip_of d).grid d.vcs true s.network.copies
   pub windows : WindowsFit (chip_of d) s.network.windows
@@ -42,6 +43,7 @@ pub record NetworkHolds (d : Doc) (s : ChipState) : Type 0 where
   pub reserved : ReservedIsOrdered (chip_of d) s.network
   pub ordered : IsInOrder (chip_of d) s.network
 
+-- what holds of the whole chip; what holds of a core is a parameter
 pub record ChipHolds (CoreHolds : ChipState → ℕ → UnitState → Type 0) (d : Doc) (s : ChipState) : Type 0 where
   pub units : length s.units ≡ tile_count (chip_of d)
   pub interfaces : length s.network.interfaces ≡ tile_count (chip_of d)

@@ -25,6 +25,7 @@ pub record ChipState : Type 0 where
   pub journal : List Event
   pub hops : ℕ
 
+-- a tile's program, and the empty one where the description has none
 abbrev pub program_of : Doc → ℕ → List Instr
 program_of d tile = slice_index_or d.programs tile []
 
@@ -39,6 +40,7 @@ opening d = record {
   hops = 0;
 }
 
+-- a list without elements
 abbrev pub is_nil : {X : Type 0} → List X → Bool
 is_nil list = length list == 0
 

@@ -25,6 +25,7 @@ network_step chip net (Send t) = None
 network_step chip net (DataHop router port slot) = None
 network_step chip net (DataEject router port slot) = None
 
+-- an event of the network, where it is possible
 abbrev pub network_tried : Chip → OrderedNetwork → Event → OrderedNetwork
 network_tried chip net event = unwrap_or (network_step chip net event) net
 
@@ -45,6 +46,7 @@ moves_requests (Send t) = false
 moves_requests (DataHop router port slot) = false
 moves_requests (DataEject router port slot) = false
 
+-- the slots of the events that move requests
 abbrev pub request_slots : Chip → List Event
 request_slots chip = filter moves_requests (slots chip)
 
@@ -53,6 +55,7 @@ unfoldable pub passes : Chip → ℕ → OrderedNetwork → OrderedNetwork
 passes chip zero net = net
 passes chip (suc n) net = passes chip n (network_swept chip net (request_slots chip))
 
+-- so many ticks
 abbrev pub ticks : ℕ → List Event
 ticks count = map (λ k. Tick) (upwards 0 count)
 
@@ -83,5 +86,6 @@ DeliversPosts d net = let chip = chip_of d in Delivers chip (map (rising chip) d
 abbrev pub sources_delivered : OrderedNetwork → Interface → List ℕ
 sources_delivered net interface = sources (take interface.delivered net.ordered)
 
+-- the lists of all tiles
 abbrev pub delivered_lists : OrderedNetwork → List (List ℕ)
 delivered_lists net = map (sources_delivered net) net.interfaces

@@ -29,10 +29,12 @@ pub record WriteBack : Type 0 where
   pub live : Bool
   pub sent : Bool
 
+-- what a node waits for: at most one demand and at most one write-back
 pub record Misses : Type 0 where
   pub demand : Option Demand
   pub back : Option WriteBack
 
+-- nothing is waited for
 abbrev pub no_misses : Misses
 no_misses = record { demand = None; back = None }
 
@@ -41,10 +43,12 @@ abbrev pub is_demanded : ℕ → Option Demand → Bool
 is_demanded line None = false
 is_demanded line (Some demand) = demand.line == line
 
+-- a line is the one that is written back
 abbrev pub is_written_back : ℕ → Option WriteBack → Bool
 is_written_back line None = false
 is_written_back line (Some back) = line == back.line
 
+-- a request that asks for a copy to write
 abbrev pub is_getm : Kind → Bool
 is_getm GetM = true
 is_getm GetS = false
@@ -76,6 +80,7 @@ new_demand kind line pending = record {
   list = [];
 }
 
+-- a write-back that was not sent, of a line that its node still owns
 abbrev pub new_back : ℕ → List ℕ → WriteBack
 new_back line words = record { line = line; words = words; live = true; sent = false }
 
@@ -89,6 +94,7 @@ abbrev pub wanted_by : Option Demand → Option WriteBack → Option (Kind × �
 wanted_by demand None = wanted_by_demand demand
 wanted_by demand (Some back) = if back.sent then wanted_by_demand demand else Some (PutM, back.line)
 
+-- the request of a table that is sent next
 unfoldable pub wanted : Misses → Option (Kind × ℕ)
 wanted misses = wanted_by misses.demand misses.back
 
@@ -104,5 +110,6 @@ sent_by demand (Some back) =
     if back.sent then record { demand = sent_demand demand; back = Some back }
     else record { demand = demand; back = Some (record back { sent = true }) }
 
+-- a table after that request was sent
 unfoldable pub marked_sent : Misses → Misses
 marked_sent misses = sent_by misses.demand misses.back

@@ -36,6 +36,7 @@ pub record IsCopyOfMade (net : OrderedNetwork) (copy : NetCopy) : Type 0 where
   pub source : slice_get net.interfaces copy.request.source ≡ Some interface
   pub made : slice_get interface.made copy.request.number ≡ Some copy.request
 
+-- a copy is of a request that its tile made
 abbrev pub CopiesAreMade : OrderedNetwork → Type 0
 CopiesAreMade net = (router port slot : ℕ) (copy : NetCopy) → at net.copies router port slot ≡ Some copy → IsCopyOfMade net copy
 

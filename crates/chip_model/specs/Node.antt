@@ -32,6 +32,7 @@ pub record Node : Type 0 where
 abbrev pub words_at : List ℕ → ℕ → List ℕ
 words_at memory line = take 4 (drop (4 * line) memory)
 
+-- the record of a line at a tile, where the tile is its home
 abbrev pub record_at : Chip → ℕ → List ℕ → ℕ → Option LineRecord
 record_at chip tile memory line = if home chip line == tile then Some (opening_record (words_at memory line)) else None
 
@@ -39,6 +40,7 @@ record_at chip tile memory line = if home chip line == tile then Some (opening_r
 abbrev pub opening_records : Chip → ℕ → List ℕ → Records
 opening_records chip tile memory = map (record_at chip tile memory) (upwards 0 chip.lines)
 
+-- a node before any event
 abbrev pub opening_node : Chip → ℕ → List ℕ → Node
 opening_node chip tile memory = record {
   chip = chip;
@@ -60,16 +62,19 @@ request_delivered q node =
     let answers = answered q node.records in
     (record node { side = outcome.side; records = answers.records; out = node.out ++ outcome.sends ++ answers.sends; delivered = node.delivered + 1 }, outcome.done)
 
+-- words for the demand come
 abbrev pub words_arrived : Node → List ℕ → Performed
 words_arrived node words =
     let outcome = data_arrived node.chip node.side words in
     (record node { side = outcome.side; out = node.out ++ outcome.sends }, outcome.done)
 
+-- words that are written back come to the controller
 abbrev pub back_came : Node → ℕ → List ℕ → Node
 back_came node line words =
     let answers = back_arrived line words node.records in
     record node { records = answers.records; out = node.out ++ answers.sends }
 
+-- a message comes, by its kind
 abbrev pub arrived_as : Msg → Node → MsgKind → Performed
 arrived_as msg node Data = words_arrived node msg.words
 arrived_as msg node Back = (back_came node msg.line msg.words, None)
@@ -82,6 +87,7 @@ message_arrived msg node = arrived_as msg node msg.kind
 unfoldable pub request_sent : Node → Node
 request_sent node = record node { side = record node.side { misses = marked_sent node.side.misses } }
 
+-- the first message of the queue is sent
 unfoldable pub message_sent : Node → Node
 message_sent node = record node { out = drop 1 node.out }
 
@@ -95,6 +101,7 @@ has_entry node = is_some node.side.misses.demand
 abbrev pub waits_for_any : Node → Bool
 waits_for_any node = is_some node.side.misses.demand || is_some node.side.misses.back
 
+-- a message of words that are written back
 abbrev pub is_back : MsgKind → Bool
 is_back Back = true
 is_back Data = false
@@ -103,6 +110,7 @@ is_back Data = false
 abbrev pub holds_back : List Msg → Bool
 holds_back out = list_any (λ (msg : Msg). is_back msg.kind) out
 
+-- the node with another cache side
 abbrev pub with_side : CacheSide → Node → Node
 with_side side node = record node { side = side }
 
@@ -110,9 +118,11 @@ with_side side node = record node { side = side }
 abbrev pub hit_by : Pending → Held → Node → Option Done
 hit_by access held node = Some (done_by access node.delivered held.words)
 
+-- a read of a copy leaves it as it is
 abbrev pub load_hit : Pending → Held → Node → Performed
 load_hit access held node = (node, hit_by access held node)
 
+-- a write changes the only copy
 abbrev pub store_hit : Pending → Held → Node → Performed
 store_hit access held node =
     let new : Held = record held { words = written_by access held.words } in
@@ -153,6 +163,7 @@ store_to access held node M = Some (store_hit access held node)
 store_to access held node O = unless_written_back access node (Some (demand_started access node.side node))
 store_to access held node S = unless_written_back access node (Some (demand_started access node.side node))
 
+-- an access, by the copy of its line
 abbrev pub accessed_with : Pending → Node → Option Held → Option Performed
 accessed_with access node None = unless_written_back access node (missed access node)
 accessed_with access node (Some held) =

@@ -25,6 +25,7 @@ pub record IsCache (chip : Chip) (cache : Cache) : Type 0 where
   pub apart : (set : ℕ) → IsApart (slice_index_or cache set [])
   pub placed : (set line : ℕ) → is_some (found line (slice_index_or cache set [])) ≡ true → set_number chip line ≡ set
 
+-- the state of the only valid copy
 abbrev pub is_modified_state : State → Bool
 is_modified_state M = true
 is_modified_state O = false
@@ -52,6 +53,7 @@ pub record DemandFits (chip : Chip) (cache : Cache) (demand : Demand) : Type 0 w
   -- no copy stays where the line goes on to a tile that writes it
   pub gone : ends_in_getm demand.list ≡ true → lookup chip cache demand.line ≡ None
 
+-- the cache, the demand and the write-back of a node fit each other
 pub record SideFits (chip : Chip) (side : CacheSide) : Type 0 where
   pub cache : IsCache chip side.cache
   pub demand : (demand : Demand) → side.misses.demand ≡ Some demand → DemandFits chip side.cache demand
@@ -70,6 +72,7 @@ pub record LinesFit (node : Node) : Type 0 where
 abbrev pub OneBack : Node → Type 0
 OneBack node = count_if (is_some node.side.misses.back) + count_by (λ (msg : Msg). is_back msg.kind) node.out ≤ 1
 
+-- the shape of a node
 pub record NodeFits (node : Node) : Type 0 where
   pub side : SideFits node.chip node.side
   pub back : OneBack node

@@ -27,6 +27,7 @@ pub record OrderedNetwork : Type 0 where
   pub ordered : List Request
   pub interfaces : List Interface
 
+-- the network before any event
 abbrev pub opening_network : Chip → OrderedNetwork
 opening_network chip = record {
   copies = no_copies chip.grid chip.vcs;
@@ -35,6 +36,7 @@ opening_network chip = record {
   interfaces = replicate (tile_count chip) (record { made = []; posted = 0; delivered = 0 });
 }
 
+-- the tiles of requests
 abbrev pub sources : List Request → List ℕ
 sources requests = map (λ (q : Request). q.source) requests
 

@@ -14,10 +14,12 @@ use Rattle.chip_model.specs.ChipState.{ChipState, finished}
 use Rattle.chip_model.specs.Ownership.{owner}
 use Rattle.chip_model.specs.Witness.{witness}
 
+-- the words of a copy, where there is one
 abbrev pub words_held : Option Held → List ℕ
 words_held None = []
 words_held (Some held) = held.words
 
+-- the words of a record, where there is one
 abbrev pub words_recorded : Option LineRecord → List ℕ
 words_recorded None = []
 words_recorded (Some r) = r.words
@@ -29,6 +31,7 @@ words_of_owner chip s line (Tile t) =
 words_of_owner chip s line Memory =
     unwrap_or (option_map (λ (unit : UnitState). words_recorded (slice_index_or unit.node.records line None)) (slice_get s.units (home chip line))) []
 
+-- the words of a line at the end
 abbrev pub final_words : Chip → ChipState → ℕ → List ℕ
 final_words chip s line = words_of_owner chip s line (owner line s.network.ordered)
 
@@ -36,6 +39,7 @@ final_words chip s line = words_of_owner chip s line (owner line s.network.order
 abbrev pub final_memory : Doc → ChipState → List ℕ
 final_memory d s = flat_map (final_words (chip_of d) s) (upwards 0 d.lines)
 
+-- the report of a state that ended so
 abbrev pub report_with : Doc → ChipState → Bool → Report
 report_with d s is_finished = record {
   requests = s.network.ordered;
@@ -49,5 +53,6 @@ report_with d s is_finished = record {
   ended = if is_finished then Finished else Budget;
 }
 
+-- the report of a state
 unfoldable pub report_of : Doc → ChipState → Report
 report_of d s = report_with d s (finished s)

@@ -8,6 +8,7 @@ use Rattle.chip_model.specs.ChipState.{ChipState, opening}
 use Rattle.chip_model.specs.Events.{step}
 use Rattle.chip_model.specs.Partial.{◌>>=◌}
 
+-- the state with an event in its journal
 abbrev pub noted : Event → ChipState → ChipState
 noted event s = record s { journal = s.journal ++ event ∷ [] }
 
@@ -15,6 +16,7 @@ noted event s = record s { journal = s.journal ++ event ∷ [] }
 unfoldable pub after : Behaviour → Chip → ChipState → Event → Option ChipState
 after behaviour chip s event = step behaviour chip s event >>= (λ new. Some (noted event new))
 
+-- whether an event is possible in a state
 unfoldable pub enabled : Behaviour → Chip → ChipState → Event → Bool
 enabled behaviour chip s event = is_some (step behaviour chip s event)
 

@@ -15,9 +15,11 @@ use Rattle.chip_model.specs.Units.{Behaviour}
 use Rattle.chip_model.specs.ChipState.{ChipState, opening, finished}
 use Rattle.chip_model.specs.Runs.{after}
 
+-- the four sides
 abbrev pub sides : List Port
 sides = E ∷ W ∷ N ∷ S ∷ []
 
+-- the five ports
 abbrev pub ports : List Port
 ports = L ∷ sides
 
@@ -51,6 +53,7 @@ slots chip = Tick ∷ flat_map (tile_slots chip) (upwards 0 (tile_count chip))
 abbrev pub slots_per_tile : Chip → ℕ
 slots_per_tile chip = 22 + 20 * chip.vcs + 10 * chip.data_vcs
 
+-- how many slots a chip has
 abbrev pub slot_count : Chip → ℕ
 slot_count chip = 1 + tile_count chip * slots_per_tile chip
 

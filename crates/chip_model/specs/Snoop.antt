@@ -27,15 +27,19 @@ pub record Outcome : Type 0 where
   pub sends : List Msg
   pub done : Option Done
 
+-- a step that leaves this side, and sends and completes nothing
 abbrev pub quiet : CacheSide → Outcome
 quiet side = record { side = side; sends = []; done = None }
 
+-- the side with another demand
 abbrev pub with_demand : Option Demand → CacheSide → CacheSide
 with_demand demand side = record side { misses = record side.misses { demand = demand } }
 
+-- the side with another write-back
 abbrev pub with_back : Option WriteBack → CacheSide → CacheSide
 with_back back side = record side { misses = record side.misses { back = back } }
 
+-- the side with another cache
 abbrev pub with_cache : Cache → CacheSide → CacheSide
 with_cache cache side = record side { cache = cache }
 
@@ -43,6 +47,7 @@ with_cache cache side = record side { cache = cache }
 abbrev pub data_to : ℕ → ℕ → List ℕ → Msg
 data_to tile line words = record { to = tile; kind = Data; line = line; words = words }
 
+-- words for each that waits
 abbrev pub data_to_all : ℕ → List ℕ → List Waiting → List Msg
 data_to_all line words list = map (λ (waiting : Waiting). data_to waiting.tile line words) list
 
@@ -63,6 +68,7 @@ pub data Holding : Type 0 where
   -- none of these
   Nothing : Holding
 
+-- what an ordered demand is for other tiles
 abbrev pub holding_demand : Demand → Holding
 holding_demand demand =
     if is_getm demand.kind then (if ends_in_getm demand.list then Nothing else OpenWrite demand) else OpenRead demand
@@ -73,18 +79,22 @@ holding_unowned is_shared (Some back) demand = LiveBack back.words
 holding_unowned is_shared None (Some demand) = holding_demand demand
 holding_unowned is_shared None None = if is_shared then SharedCopy else Nothing
 
+-- the first of these that holds, by the copy, the write-back and the demand
 abbrev pub holding_by : Option Held → Option WriteBack → Option Demand → Holding
 holding_by None back demand = holding_unowned false back demand
 holding_by (Some held) back demand = if is_shared held.state then holding_unowned true back demand else OwnedCopy held.words
 
+-- the ordered demand for a line
 abbrev pub ordered_for : ℕ → Option Demand → Option Demand
 ordered_for line None = None
 ordered_for line (Some demand) = if (demand.line == line) && is_some demand.ordered then Some demand else None
 
+-- the live write-back of a line
 abbrev pub live_for : ℕ → Option WriteBack → Option WriteBack
 live_for line None = None
 live_for line (Some back) = if (back.line == line) && back.live then Some back else None
 
+-- what a node has for a line
 unfoldable pub holding : Chip → CacheSide → ℕ → Holding
 holding chip side line = holding_by (lookup chip side.cache line) (live_for line side.misses.back) (ordered_for line side.misses.demand)
 
@@ -96,13 +106,16 @@ supplies q words side = record { side = side; sends = data_to q.source q.line wo
 abbrev pub line_gone : Chip → ℕ → CacheSide → CacheSide
 line_gone chip line side = with_cache (without_line chip line side.cache) side
 
+-- the copy of a line becomes one that others may share
 abbrev pub made_owned : Chip → ℕ → List ℕ → CacheSide → CacheSide
 made_owned chip line words side = with_cache (installed chip (record { line = line; state = O; words = words }) side.cache) side
 
+-- the write-back, under which the node owns nothing any more
 abbrev pub stale_back : Option WriteBack → Option WriteBack
 stale_back None = None
 stale_back (Some back) = Some (record back { live = false })
 
+-- the side with that write-back
 abbrev pub made_stale : CacheSide → CacheSide
 made_stale side = with_back (stale_back side.misses.back) side
 
@@ -110,6 +123,7 @@ made_stale side = with_back (stale_back side.misses.back) side
 abbrev pub waits_behind : Request → Demand → CacheSide → CacheSide
 waits_behind q demand side = with_demand (Some (record demand { list = demand.list ++ record { tile = q.source; kind = q.kind } ∷ [] })) side
 
+-- the demand's words serve once, and are not kept
 abbrev pub serves_once : Demand → CacheSide → CacheSide
 serves_once demand side = with_demand (Some (record demand { once = true })) side
 
@@ -131,6 +145,7 @@ snooped_with chip q side something PutM = quiet side
 
 -- What an access does to the words of its line.
 
+-- the word of an address among its line's words
 abbrev pub word_in : List ℕ → ℕ → ℕ
 word_in words address = slice_index words (word_of address)
 
@@ -163,6 +178,7 @@ kept_after_store chip line words (first ∷ rest) cache =
     if ends_in_getm (first ∷ rest) then without_line chip line cache
     else installed chip (record { line = line; state = O; words = words }) cache
 
+-- what is left in the cache of the words of a load
 abbrev pub kept_after_load : Chip → Demand → List ℕ → Cache → Cache
 kept_after_load chip demand words cache =
     if demand.once then cache else installed chip (record { line = demand.line; state = S; words = words }) cache
@@ -194,6 +210,7 @@ words_in_state words O = Some words
 words_in_state words M = None
 words_in_state words S = None
 
+-- the words of a copy in O
 abbrev pub owned_words : Option Held → Option (List ℕ)
 owned_words None = None
 owned_words (Some held) = words_in_state held.words held.state
@@ -203,10 +220,12 @@ abbrev pub words_here : Chip → CacheSide → Demand → Option (List ℕ) → 
 words_here chip side demand (Some words) = Some words
 words_here chip side demand None = if is_getm demand.kind then owned_words (lookup chip side.cache demand.line) else None
 
+-- a demand is ordered: it completes where its words are here, and else waits
 abbrev pub ordered_with : Chip → CacheSide → ℕ → Demand → Option (List ℕ) → Outcome
 ordered_with chip side place demand (Some words) = completed chip demand place words side
 ordered_with chip side place demand None = quiet (with_demand (Some (record demand { ordered = Some place })) side)
 
+-- the node's own get is delivered
 abbrev pub own_get : Chip → CacheSide → ℕ → Option Demand → Outcome
 own_get chip side place None = quiet side
 own_get chip side place (Some demand) = ordered_with chip side place demand (words_here chip side demand demand.early)
@@ -220,6 +239,7 @@ own_put chip side (Some back) = record {
   done = None;
 }
 
+-- the node's own request is delivered, by its kind
 abbrev pub own_request : Chip → CacheSide → ℕ → Kind → Outcome
 own_request chip side place GetS = own_get chip side place side.misses.demand
 own_request chip side place GetM = own_get chip side place side.misses.demand
@@ -231,10 +251,12 @@ snooped chip tile side place q =
     if q.source == tile then own_request chip side place q.kind
     else snooped_with chip q side (holding chip side q.line) q.kind
 
+-- the words of a demand come, by its place
 abbrev pub data_at : Chip → CacheSide → List ℕ → Demand → Option ℕ → Outcome
 data_at chip side words demand (Some place) = completed chip demand place words side
 data_at chip side words demand None = quiet (with_demand (Some (record demand { early = Some words })) side)
 
+-- words come, by the demand that stands
 abbrev pub data_for : Chip → CacheSide → List ℕ → Option Demand → Outcome
 data_for chip side words None = quiet side
 data_for chip side words (Some demand) = data_at chip side words demand demand.ordered

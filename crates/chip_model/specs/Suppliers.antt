@@ -20,6 +20,7 @@ use Rattle.chip_model.specs.ChipState.{ChipState}
 use Rattle.chip_model.specs.Ownership.{owner, is_tile, delivered_to}
 use Rattle.chip_model.specs.Bookkeeping.{is_get, is_get_of, up_to_getm, waiting_for, between}
 
+-- how many requests were delivered to a unit, where there is one
 abbrev pub count_of : Option UnitState → ℕ
 count_of None = 0
 count_of (Some unit) = unit.node.delivered
@@ -33,6 +34,7 @@ abbrev pub supplier : Chip → ℕ → Owner → ℕ
 supplier chip line Memory = home chip line
 supplier chip line (Tile owner) = owner
 
+-- whether a request is a get of a tile that its supplier has not delivered
 abbrev pub is_to_come_at : Chip → ChipState → ℕ → ℕ → Option Request → Bool
 is_to_come_at chip s t place None = false
 is_to_come_at chip s t place (Some q) =
@@ -46,6 +48,7 @@ is_to_come chip s t place = is_to_come_at chip s t place (slice_get s.network.or
 abbrev pub is_data_for : ℕ → Msg → Bool
 is_data_for t msg = not (is_back msg.kind) && (msg.to == t)
 
+-- the messages of words for a tile in channels
 abbrev pub data_in_channels : ChipState → ℕ → ℕ
 data_in_channels s t = weigh (λ router port slot msg. count_if (is_data_for t msg)) s.replies
 
@@ -53,10 +56,12 @@ data_in_channels s t = weigh (λ router port slot msg. count_if (is_data_for t m
 abbrev pub places_in : ℕ → List Waiting → ℕ
 places_in t list = count_by (λ (waiting : Waiting). waiting.tile == t) list
 
+-- a tile's places in the list of a demand
 abbrev pub places_behind : ℕ → Option Demand → ℕ
 places_behind t None = 0
 places_behind t (Some demand) = places_in t demand.list
 
+-- a tile's places among the waiters of a record
 abbrev pub places_at : ℕ → Option LineRecord → ℕ
 places_at t None = 0
 places_at t (Some r) = places_in t r.waiters
@@ -71,10 +76,12 @@ abbrev pub answers_to_come : Chip → ChipState → ℕ → ℕ
 answers_to_come chip s t =
     sum_by (promised_by t) s.units + data_in_channels s t + count_by (is_to_come chip s t) (upwards 0 (length s.network.ordered))
 
+-- a demand has early data
 abbrev pub has_early : Option Demand → Bool
 has_early None = false
 has_early (Some demand) = is_some demand.early
 
+-- a demand is ordered
 abbrev pub is_ordered : Option Demand → Bool
 is_ordered None = false
 is_ordered (Some demand) = is_some demand.ordered
@@ -90,10 +97,12 @@ IsSupplied chip s t node =
 abbrev pub place_to_come : ChipState → Node → Option ℕ
 place_to_come s node = option_map (λ place. node.delivered + place) (position (is_get_of node.tile) (drop node.delivered s.network.ordered))
 
+-- the place of an ordered demand
 abbrev pub place_of_ordered : Option Demand → Option ℕ
 place_of_ordered None = None
 place_of_ordered (Some demand) = demand.ordered
 
+-- the place of the get for which a tile waits
 abbrev pub place_of_get : ChipState → Node → Option ℕ
 place_of_get s node = option_or (place_of_ordered node.side.misses.demand) (place_to_come s node)
 
@@ -103,6 +112,7 @@ OneToCome chip s t node = (place : ℕ) → is_to_come chip s t place ≡ true �
 
 -- Write-backs.
 
+-- a request writes a line back from this owner
 abbrev pub gives_back_as : ℕ → Owner → Option Request → Bool
 gives_back_as line owner None = false
 gives_back_as line owner (Some q) = not (is_get q.kind) && (q.line == line) && is_tile q.source owner
@@ -115,11 +125,13 @@ gives_back line ordered place = gives_back_as line (owner line (take place order
 abbrev pub places_given_back : ℕ → List Request → List ℕ
 places_given_back line ordered = filter (gives_back line ordered) (upwards 0 (length ordered))
 
+-- the last of these
 abbrev pub last : List ℕ → Option ℕ
 last [] = None
 last (place ∷ []) = Some place
 last (first ∷ next ∷ rest) = last (next ∷ rest)
 
+-- the place of the last request that wrote a line back
 abbrev pub last_given_back : ℕ → List Request → Option ℕ
 last_given_back line ordered = last (places_given_back line ordered)
 
@@ -127,11 +139,13 @@ last_given_back line ordered = last (places_given_back line ordered)
 abbrev pub is_back_for : ℕ → Msg → Bool
 is_back_for line msg = is_back msg.kind && (msg.line == line)
 
+-- how many messages are writing a line back
 abbrev pub backs_under_way : ChipState → ℕ → ℕ
 backs_under_way s line =
     sum_by (λ (unit : UnitState). count_by (is_back_for line) unit.node.out) s.units
     + weigh (λ router port slot msg. count_if (is_back_for line msg)) s.replies
 
+-- the tile of a request has not delivered it at its place
 abbrev pub is_undelivered_at : ChipState → ℕ → Option Request → Bool
 is_undelivered_at s place None = false
 is_undelivered_at s place (Some q) = nat_le (delivered_at s q.source) place
@@ -140,6 +154,7 @@ is_undelivered_at s place (Some q) = nat_le (delivered_at s q.source) place
 abbrev pub is_undelivered : ChipState → ℕ → Bool
 is_undelivered s place = is_undelivered_at s place (slice_get s.network.ordered place)
 
+-- how many requests are still to write a line back
 abbrev pub backs_to_come : ChipState → ℕ → ℕ
 backs_to_come s line = count_by (is_undelivered s) (places_given_back line s.network.ordered)
 
@@ -149,6 +164,7 @@ pub record ComesHome (s : ChipState) (line : ℕ) : Type 0 where
   pub last : 0 < backs_under_way s line + backs_to_come s line → is_some (last_given_back line s.network.ordered) ≡ true
   pub undelivered : (place : ℕ) → gives_back line s.network.ordered place ≡ true → is_undelivered s place ≡ true → last_given_back line s.network.ordered ≡ Some place
 
+-- a place is that one
 abbrev pub is_last : Option ℕ → ℕ → Bool
 is_last None place = false
 is_last (Some last) place = last == place
@@ -163,6 +179,7 @@ abbrev pub next_from : ℕ → List ℕ → Option ℕ
 next_from place [] = None
 next_from place (first ∷ rest) = if nat_le place first then Some first else next_from place rest
 
+-- the place of the next request that writes a line back
 abbrev pub next_given_back : ChipState → ℕ → ℕ → Option ℕ
 next_given_back s line place = next_from place (places_given_back line s.network.ordered)
 
@@ -172,10 +189,12 @@ abbrev pub has_come : ChipState → ℕ → Bool → Option ℕ → Bool
 has_come s line none None = none
 has_come s line none (Some place) = has_come_home s line place
 
+-- whether a record is fresh, by its owner
 abbrev pub is_fresh_by : ChipState → Node → ℕ → Owner → Bool
 is_fresh_by s node line Memory = has_come s line true (last_given_back line (delivered_to s.network.ordered node))
 is_fresh_by s node line (Tile t) = has_come s line false (next_given_back s line node.delivered)
 
+-- the records of a node are fresh by that rule
 abbrev pub RecordsAreFresh : ChipState → Node → Type 0
 RecordsAreFresh s node = (line : ℕ) (r : LineRecord) → slice_index_or node.records line None ≡ Some r → r.fresh ≡ is_fresh_by s node line r.owner
 
@@ -186,6 +205,7 @@ waiters_behind s node line (Some place) =
     if has_come_home s line place then []
     else waiting_for (up_to_getm (filter (λ (q : Request). is_get q.kind && (q.line == line)) (between place node.delivered s.network.ordered)))
 
+-- who waits at the records of a node is told by the order
 abbrev pub WaitersAreGets : ChipState → Node → Type 0
 WaitersAreGets s node = (line : ℕ) (r : LineRecord) → slice_index_or node.records line None ≡ Some r →
     r.waiters ≡ (if r.fresh then [] else waiters_behind s node line (last_given_back line (delivered_to s.network.ordered node)))

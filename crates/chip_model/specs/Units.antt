@@ -29,6 +29,7 @@ pub record UnitState : Type 0 where
   pub halted : Bool
   pub buffered : List BufferedStore
 
+-- a unit before any event
 abbrev pub opening_unit : Chip → ℕ → List Instr → List ℕ → UnitState
 opening_unit chip tile program memory = record {
   node = opening_node chip tile memory;
@@ -74,11 +75,13 @@ performed unit (node, Some done) =
     let access = access_of unit done in
     (record unit { node = node; core = core_after unit.program access unit.core }, Some access)
 
+-- the unit tries an access at an address of its chip
 abbrev pub access_tried : UnitState → AccessKind → ℕ → ℕ → Option Acted
 access_tried unit kind sum value =
     let access : Pending = record { kind = kind; address = address_in unit.node.chip sum; value = value } in
     option_map (performed unit) (accessed access unit.node)
 
+-- the effect of the next instruction
 abbrev pub executed : UnitState → Effect → Option Acted
 executed unit (Becomes core) = Some (record unit { core = core }, None)
 executed unit (Loads register sum) = access_tried unit Load sum 0
@@ -93,6 +96,7 @@ unfoldable pub core_event : UnitState → Option Acted
 core_event unit =
     when (not (unit.halted || has_entry unit.node)) (executed unit (effect_of (instr_at unit.program unit.core.place) unit.core))
 
+-- in-order cores
 unfoldable pub in_order : Behaviour
 in_order = record {
   ready = λ unit. is_some (core_event unit);

@@ -44,6 +44,7 @@ abbrev pub place_of_shared : Node → ℕ → ℕ
 place_of_shared node line =
     if is_ordered_write line node.side.misses.demand then place_of_demand node.side.misses.demand node.delivered else node.delivered
 
+-- a copy has its value, by its state
 abbrev pub CopyHasValue : Doc → ChipState → Node → ℕ → Held → State → Type 0
 CopyHasValue d s node line held M = HasOwnValue d s node.tile line node.delivered held.words
 CopyHasValue d s node line held O = HasValue d s line node.delivered held.words
@@ -63,6 +64,7 @@ abbrev pub GoesTo : Chip → Msg → MsgKind → Type 0
 GoesTo chip msg Data = Unit {0}
 GoesTo chip msg Back = msg.to ≡ home chip msg.line
 
+-- a message is for a tile, of a line, and goes where its kind says
 pub record MessageFits (chip : Chip) (msg : Msg) : Type 0 where
   pub to : msg.to < tile_count chip
   pub line : msg.line < chip.lines
@@ -74,6 +76,7 @@ pub record ComesFromBack (d : Doc) (s : ChipState) (line : ℕ) (words : List �
   pub put : last_given_back line s.network.ordered ≡ Some place
   pub value : HasValue d s line place words
 
+-- the words of a message have their value, by its kind
 abbrev pub MessageHasValue : Doc → ChipState → Msg → MsgKind → Type 0
 MessageHasValue d s msg Data = (unit : UnitState) → slice_get s.units msg.to ≡ Some unit → AnswersGet d s unit.node msg.line msg.words
 MessageHasValue d s msg Back = ComesFromBack d s msg.line msg.words
@@ -92,6 +95,7 @@ pub record NodeHasValues (d : Doc) (s : ChipState) (node : Node) : Type 0 where
   pub out : (place : ℕ) (msg : Msg) → slice_get node.out place ≡ Some msg → MessageFits (chip_of d) msg × MessageHasValue d s msg msg.kind
   pub records : (line : ℕ) (r : LineRecord) → slice_index_or node.records line None ≡ Some r → r.fresh ≡ true → RecordHasValue d s node line r r.owner
 
+-- the law of line values
 pub record ValuesHold (d : Doc) (s : ChipState) : Type 0 where
   pub nodes : (t : ℕ) (unit : UnitState) → slice_get s.units t ≡ Some unit → NodeHasValues d s unit.node
   pub tiles : (place : ℕ) (a : Access) → slice_get s.accesses place ≡ Some a → a.tile < tile_count (chip_of d)

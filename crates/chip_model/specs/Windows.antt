@@ -19,6 +19,7 @@ opening_windows tiles = record { phase = 0; posts = 0; closed = []; taken = repl
 abbrev pub may_post : Windows → ℕ → Bool
 may_post w t = (w.phase == 0) && nat_lt t (length w.taken) && not (has_tile w.posts t)
 
+-- a tile posts
 unfoldable pub posted : Windows → ℕ → Option Windows
 posted w t = when (may_post w t) (Some (record w { posts = bit_or (2 ^ t) w.posts }))
 
@@ -43,5 +44,6 @@ closed_by_tick ticks w = when (is_last_tick ticks w) (Some w.posts)
 unfoldable pub next_vector : Windows → ℕ → Option ℕ
 next_vector w t = slice_get w.taken t >>= slice_get w.closed
 
+-- a tile takes the next closed vector
 unfoldable pub taken_by : Windows → ℕ → Option Windows
 taken_by w t = slice_get w.taken t >>= (λ count. slice_get w.closed count >>= (λ vector. Some (record w { taken = set w.taken t (count + 1) })))

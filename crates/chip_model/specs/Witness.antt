@@ -18,6 +18,7 @@ abbrev pub inserted : Access → List Access → List Access
 inserted a [] = a ∷ []
 inserted a (b ∷ rest) = if is_before b a then b ∷ inserted a rest else a ∷ b ∷ rest
 
+-- the accesses in sequence
 abbrev pub in_sequence : List Access → List Access
 in_sequence [] = []
 in_sequence (a ∷ rest) = inserted a (in_sequence rest)
@@ -26,6 +27,7 @@ in_sequence (a ∷ rest) = inserted a (in_sequence rest)
 unfoldable pub witness : ChipState → List Access
 witness s = in_sequence s.accesses
 
+-- an access that writes
 abbrev pub is_write : Access → Bool
 is_write access = writes access.kind
 
@@ -33,6 +35,7 @@ is_write access = writes access.kind
 abbrev pub writes_by : ℕ → ℕ → Access → Bool
 writes_by line place access = is_write access && (line_of access.address == line) && nat_le access.time place
 
+-- the words of a line after one of its writes
 abbrev pub written : List ℕ → Access → List ℕ
 written words access = set words (word_of access.address) access.value
 

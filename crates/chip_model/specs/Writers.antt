@@ -17,6 +17,7 @@ use Rattle.chip_model.specs.Ownership.{writer, delivered_to}
 use Rattle.chip_model.specs.NodeShape.{is_modified}
 use Rattle.chip_model.specs.Witness.{is_write}
 
+-- the place of an ordered demand, and else a count
 abbrev pub time_of_place : Option ℕ → ℕ → ℕ
 time_of_place None delivered = delivered
 time_of_place (Some place) delivered = place
@@ -31,6 +32,7 @@ abbrev pub time_of_demand : Option Demand → ℕ → ℕ
 time_of_demand None delivered = delivered
 time_of_demand (Some demand) delivered = time_of_place demand.ordered delivered
 
+-- the same of a node
 abbrev pub latest_time : Node → ℕ
 latest_time node = time_of_demand node.side.misses.demand node.delivered
 
@@ -51,6 +53,7 @@ writer_for_state node held S w = (w ≡ Memory) ⊎ ((w ≡ Tile node.tile) × (
 abbrev pub writer_for : Node → Held → Owner → Type 0
 writer_for node held w = writer_for_state node held held.state w
 
+-- what the copies of a node say of who may write their lines
 abbrev pub WritersFit : List Request → Node → Type 0
 WritersFit ordered node = (line : ℕ) (held : Held) → lookup node.chip node.side.cache line ≡ Some held → writer_for node held (writer line (delivered_to ordered node))
 

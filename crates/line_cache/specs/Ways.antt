@@ -9,6 +9,7 @@ abbrev pub holds : ℕ → Option Held → Bool
 holds line None = false
 holds line (Some held) = held.line == line
 
+-- a way holds a shared copy
 abbrev pub holds_shared : Option Held → Bool
 holds_shared None = false
 holds_shared (Some held) = is_shared held.state

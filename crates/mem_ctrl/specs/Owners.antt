@@ -10,6 +10,7 @@ use Rattle.chip_model.specs.Ownership.{owner_after}
 abbrev pub record_of : Records → ℕ → Option LineRecord
 record_of records line = slice_index_or records line None
 
+-- the owner of a line in the records
 abbrev pub owner_in : Records → ℕ → Option Owner
 owner_in records line = option_map (λ (r : LineRecord). r.owner) (record_of records line)
 

@@ -6,6 +6,7 @@ use Rattle.miss_table.specs.declared.look.Look.{Look}
 use Rattle.miss_table.specs.declared.look.DemandLook.{DemandLook}
 use Rattle.miss_table.specs.declared.look.BackLook.{BackLook}
 
+-- nobody waits in the list
 abbrev pub is_empty : List Waiting → Bool
 is_empty [] = true
 is_empty (first ∷ rest) = false

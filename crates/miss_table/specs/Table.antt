@@ -45,6 +45,7 @@ IsLive back = IsTrue back.live
 abbrev pub IsSentDemand : Demand → Type 0
 IsSentDemand demand = IsTrue demand.sent
 
+-- a write-back whose request was sent
 abbrev pub IsSentBack : WriteBack → Type 0
 IsSentBack back = IsTrue back.sent
 
@@ -52,12 +53,15 @@ IsSentBack back = IsTrue back.sent
 abbrev pub ordered_at : ℕ → Demand → Demand
 ordered_at place demand = record demand { ordered = Some place }
 
+-- a demand with early data
 abbrev pub with_early : List ℕ → Demand → Demand
 with_early words demand = record demand { early = Some words }
 
+-- a demand whose words serve once
 abbrev pub for_once : Demand → Demand
 for_once demand = record demand { once = true }
 
+-- a demand with one more tile in its list
 abbrev pub followed_by : Waiting → Demand → Demand
 followed_by waiting demand = record demand { list = demand.list ++ waiting ∷ [] }
 

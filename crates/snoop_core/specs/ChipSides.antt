@@ -6,6 +6,7 @@ use Rattle.chip_model.specs.Cache.{empty_cache}
 use Rattle.chip_model.specs.Misses.{Demand, no_misses}
 use Rattle.chip_model.specs.Snoop.{CacheSide, Outcome, quiet, holding, snooped_with, words_here, own_get, own_put, completed}
 
+-- the cache side of a tile beside its chip
 pub record ChipSide : Type 0 where
   pub chip : Chip
   pub side : CacheSide
@@ -27,6 +28,7 @@ abbrev pub completion_of : Option Demand → ℕ → List ℕ → ChipSide → O
 completion_of None place words site = quiet site.side
 completion_of (Some demand) place words site = completed site.chip demand place words site.side
 
+-- the completion of the demand that stands
 abbrev pub completion : ℕ → List ℕ → ChipSide → Outcome
 completion place words site = completion_of site.side.misses.demand place words site
 
@@ -39,5 +41,6 @@ words_for (Some demand) site = words_here site.chip site.side demand demand.earl
 abbrev pub own_get_at : ℕ → ChipSide → Outcome
 own_get_at place site = own_get site.chip site.side place site.side.misses.demand
 
+-- the node's own write-back is delivered
 abbrev pub own_put_of : ChipSide → Outcome
 own_put_of site = own_put site.chip site.side site.side.misses.back

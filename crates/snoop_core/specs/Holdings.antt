@@ -3,6 +3,7 @@ use Rattle.chip_model.specs.Snoop.{Holding as ModelHolding, OwnedCopy as HasOwne
 use Rattle.snoop_core.specs.declared.snoop.Holding.{Holding}
 use Rattle.snoop_core.specs.declared.snoop.Holding.TheVariants.{OwnedCopy, LiveBack, OpenWrite, OpenRead, SharedCopy, Nothing}
 
+-- what the code tells of it
 abbrev pub told : ModelHolding → Holding
 told (HasOwnedCopy words) = OwnedCopy words
 told (HasLiveBack words) = LiveBack words

@@ -28,6 +28,7 @@ StartsMiss (HitLoad words) = ⊥
 StartsMiss (HitStore words) = ⊥
 StartsMiss (PutBack line words) = ⊥
 
+-- by a plan a write-back begins
 abbrev pub StartsBack : Plan → Type 0
 StartsBack (PutBack line words) = Unit {0}
 StartsBack Miss = ⊥
