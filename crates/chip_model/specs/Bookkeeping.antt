@@ -75,21 +75,12 @@ pub record IsOrderedAt (ordered : List Request) (node : Node) (demand : Demand) 
   pub unowned : is_tile node.tile (owner demand.line (take place ordered)) ≡ false
   pub alone : filter (is_get_of node.tile) (between place node.delivered ordered) ≡ []
 
--- what the node and the interface of a tile say of its requests agrees with the order and with each other
+-- a node has delivered what its interface has; its requests are for lines of memory; those that it has not delivered are
+-- its demand's and its write-back's, and an ordered demand is the request of its place
 pub record TileAgrees (net : OrderedNetwork) (t : ℕ) (interface : Interface) (node : Node) : Type 0 where
   pub tile : node.tile ≡ t
   pub counts : node.delivered ≡ interface.delivered
-  pub within : interface.delivered ≤ length net.ordered
-  -- what it has delivered is of windows that it took
-  pub come : (count : ℕ) → slice_get net.windows.taken t ≡ Some count →
-      interface.delivered ≤ length (order (tile_count node.chip) (take count net.windows.closed))
-  pub made : AreMadeBy t interface.made
   pub lines : (n : ℕ) (q : Request) → slice_get interface.made n ≡ Some q → q.line < node.chip.lines
-  -- its requests stand in the order in their own order, each once
-  pub ordered : filter (λ (q : Request). q.source == t) net.ordered ≡ take (count_by_tile t net.ordered) interface.made
-  -- it has posted for its ordered requests, and for one more in the open window where it posted there
-  pub posted_made : interface.posted ≤ length interface.made
-  pub posted : interface.posted ≡ count_by_tile t net.ordered + (if has_tile net.windows.posts t then 1 else 0)
   pub under_way : IsUnderWay (drop (count_by_tile t (delivered_to net.ordered node)) interface.made) node.side.misses
   pub demand : (demand : Demand) (place : ℕ) → node.side.misses.demand ≡ Some demand → demand.ordered ≡ Some place → IsOrderedAt net.ordered node demand place
 

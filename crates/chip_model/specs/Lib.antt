@@ -29,6 +29,8 @@ pub mod Values
 pub mod CopiesOwed
 pub mod UnitShape
 pub mod NetworkShape
+pub mod NetworkFits
+pub mod BehaviourLaws
 pub mod ChipInvariant
 pub mod InvariantRows
 pub mod CacheRows

@@ -1,18 +1,16 @@
 -- The law of line values: every copy of a line, wherever it is, has the value that the line has at a place of the global
 -- order, and no write that would change that value is still to come.
-use Rattle.std.specs.Prelude.{◌≡◌, ℕ, ◌<◌, true, List, Option, Some, None, slice_get, slice_index_or, if◌then◌else◌}
+use Rattle.std.specs.Prelude.{◌≡◌, ℕ, true, List, Option, Some, None, slice_get, slice_index_or, if◌then◌else◌}
 use Rattle.mesh_gen.specs.declared.msg.Msg.{Msg}
 use Rattle.mesh_gen.specs.declared.msg_kind.MsgKind.{MsgKind}
 use Rattle.mesh_gen.specs.declared.msg_kind.MsgKind.TheVariants.{Data, Back}
 use Rattle.mesh_gen.specs.declared.request.Request.{Request}
 use Rattle.vc_bank.specs.Places.{at}
-use Rattle.report_text.specs.declared.access.Access.{Access}
 use Rattle.doc_text.specs.Doc.{Doc}
 use Rattle.chip_model.specs.declared.line_state.State.{State}
 use Rattle.chip_model.specs.declared.line_state.State.TheVariants.{M, O, S}
 use Rattle.chip_model.specs.declared.owner.Owner.{Owner}
 use Rattle.chip_model.specs.declared.owner.Owner.TheVariants.{Memory, Tile}
-use Rattle.chip_model.specs.Chip.{Chip, chip_of, tile_count, home}
 use Rattle.chip_model.specs.Cache.{Held, lookup}
 use Rattle.chip_model.specs.Misses.{Demand, WriteBack}
 use Rattle.chip_model.specs.Records.{LineRecord}
@@ -59,17 +57,6 @@ pub record AnswersGet (d : Doc) (s : ChipState) (node : Node) (line : ℕ) (word
   pub line_is : request.line ≡ line
   pub value : HasValue d s line place words
 
--- a message is for a tile and of a line; words that come back go to the line's home
-abbrev pub GoesTo : Chip → Msg → MsgKind → Type 0
-GoesTo chip msg Data = Unit {0}
-GoesTo chip msg Back = msg.to ≡ home chip msg.line
-
--- a message is for a tile, of a line, and goes where its kind says
-pub record MessageFits (chip : Chip) (msg : Msg) : Type 0 where
-  pub to : msg.to < tile_count chip
-  pub line : msg.line < chip.lines
-  pub goes_to : GoesTo chip msg msg.kind
-
 -- words that come home have the line's value at the place of the request that gave it back
 pub record ComesFromBack (d : Doc) (s : ChipState) (line : ℕ) (words : List ℕ) : Type 0 where
   pub place : ℕ
@@ -92,11 +79,10 @@ pub record NodeHasValues (d : Doc) (s : ChipState) (node : Node) : Type 0 where
   pub copies : (line : ℕ) (held : Held) → lookup node.chip node.side.cache line ≡ Some held → CopyHasValue d s node line held held.state
   pub back : (back : WriteBack) → node.side.misses.back ≡ Some back → back.live ≡ true → HasValue d s back.line node.delivered back.words
   pub early : (demand : Demand) (words : List ℕ) → node.side.misses.demand ≡ Some demand → demand.early ≡ Some words → AnswersGet d s node demand.line words
-  pub out : (place : ℕ) (msg : Msg) → slice_get node.out place ≡ Some msg → MessageFits (chip_of d) msg × MessageHasValue d s msg msg.kind
+  pub out : (place : ℕ) (msg : Msg) → slice_get node.out place ≡ Some msg → MessageHasValue d s msg msg.kind
   pub records : (line : ℕ) (r : LineRecord) → slice_index_or node.records line None ≡ Some r → r.fresh ≡ true → RecordHasValue d s node line r r.owner
 
 -- the law of line values
 pub record ValuesHold (d : Doc) (s : ChipState) : Type 0 where
   pub nodes : (t : ℕ) (unit : UnitState) → slice_get s.units t ≡ Some unit → NodeHasValues d s unit.node
-  pub tiles : (place : ℕ) (a : Access) → slice_get s.accesses place ≡ Some a → a.tile < tile_count (chip_of d)
-  pub channels : (router port slot : ℕ) (msg : Msg) → at s.replies router port slot ≡ Some msg → MessageFits (chip_of d) msg × MessageHasValue d s msg msg.kind
+  pub channels : (router port slot : ℕ) (msg : Msg) → at s.replies router port slot ≡ Some msg → MessageHasValue d s msg msg.kind

@@ -1,0 +1,82 @@
+-- The laws of a behaviour: what a core event, a delivery and data may do to a unit, whatever kind of core it has.
+use Rattle.std.specs.Prelude.{◌≡◌, ◌⊎◌, ℕ, ◌*◌, ◌<◌, ◌≤◌, true, false, ◌||◌, List, [], ◌∷◌, ◌++◌, Option, Some, None, IfSome}
+use Rattle.mesh_gen.specs.declared.request.Request.{Request}
+use Rattle.mesh_gen.specs.declared.msg.Msg.{Msg}
+use Rattle.report_text.specs.declared.access.Access.{Access}
+use Rattle.report_text.specs.Accesses.{writes}
+use Rattle.chip_model.specs.declared.done.Done.{Done}
+use Rattle.chip_model.specs.declared.pending.Pending.{Pending}
+use Rattle.chip_model.specs.Node.{Node, Performed, waits_for_any, holds_back, accessed, request_delivered, message_arrived}
+use Rattle.chip_model.specs.Units.{UnitState, BufferedStore, Acted, Behaviour, access_of}
+
+-- the access of instruction number n that a unit's node performed
+abbrev pub numbered : UnitState → Done → ℕ → Access
+numbered unit done n = record (access_of unit done) { number = n }
+
+-- an access is of the core's next instruction, which then counts, and is no write while stores are buffered; or it is the
+-- oldest buffered store, which then leaves the buffer
+pub record IsOfNext (old new : UnitState) (a : Access) : Type 0 where
+  pub number : a.number ≡ old.core.steps
+  pub counts : old.core.steps < new.core.steps
+  pub buffered : new.buffered ≡ old.buffered
+  pub writes_last : writes a.kind ≡ true → old.buffered ≡ []
+
+pub record IsOldestStore (old new : UnitState) (a : Access) : Type 0 where
+  pub store : BufferedStore
+  pub buffered : old.buffered ≡ store ∷ new.buffered
+  pub number : a.number ≡ store.number
+
+abbrev pub IsOfCore : UnitState → UnitState → Access → Type 0
+IsOfCore old new a = IsOfNext old new a ⊎ IsOldestStore old new a
+
+-- a store enters the end of the buffer
+pub record Buffers (old new : UnitState) : Type 0 where
+  pub store : BufferedStore
+  pub buffered : new.buffered ≡ old.buffered ++ store ∷ []
+  pub number : store.number ≡ old.core.steps
+  pub counts : old.core.steps < new.core.steps
+
+-- what no step changes of a unit
+pub record SameUnit (old new : UnitState) : Type 0 where
+  pub program : new.program ≡ old.program
+  pub tile : new.core.tile ≡ old.core.tile
+  pub steps : old.core.steps ≤ new.core.steps
+
+-- the node performed an access, and the unit answers it as its own; or it performed none, and the unit answers none
+abbrev pub Answers : UnitState → UnitState → Option Done → Option Access → Type 0
+Answers old new None answer = (answer ≡ None) × ((new.buffered ≡ old.buffered) ⊎ Buffers old new)
+Answers old new (Some done) answer = (n : ℕ) × (answer ≡ Some (numbered old done n)) × IsOfCore old new (numbered old done n)
+
+-- a unit goes on with what a step of its node left
+pub record GoesOn (unit : UnitState) (step : Performed) (acted : Acted) : Type 0 where
+  pub same : SameUnit unit acted.0
+  pub node : acted.0.node ≡ step.0
+  pub answers : Answers unit acted.0 step.1 acted.1
+
+-- a core event without the node: a read of a buffered store is no access of the node, and has the time of a hit
+pub record WorksAlone (unit : UnitState) (acted : Acted) : Type 0 where
+  pub same : SameUnit unit acted.0
+  pub node : acted.0.node ≡ unit.node
+  pub reads : IfSome acted.1 (λ a. (writes a.kind ≡ false) × (a.tile ≡ unit.node.tile) × (a.time ≡ unit.node.delivered) × IsOfCore unit acted.0 a)
+  pub buffers : acted.1 ≡ None → (acted.0.buffered ≡ unit.buffered) ⊎ Buffers unit acted.0
+
+-- a core event that tries an access at the node
+pub record TriesAccess (unit : UnitState) (acted : Acted) : Type 0 where
+  pub access : Pending
+  pub left : Performed
+  pub address : access.address < 4 * unit.node.chip.lines
+  pub tried : accessed access unit.node ≡ Some left
+  pub goes_on : GoesOn unit left acted
+
+-- a delivery or data: the node's step, and the core has not halted by it
+pub record Receives (unit : UnitState) (step : Performed) (acted : Acted) : Type 0 where
+  pub goes_on : GoesOn unit step acted
+  pub halted : acted.0.halted ≡ unit.halted
+
+pub record KeepsLaws (b : Behaviour) : Type 0 where
+  pub stepped : (unit : UnitState) → b.ready unit ≡ true → WorksAlone unit (b.stepped unit) ⊎ TriesAccess unit (b.stepped unit)
+  pub delivered : (q : Request) (unit : UnitState) → Receives unit (request_delivered q unit.node) (b.delivered q unit)
+  pub received : (msg : Msg) (unit : UnitState) → Receives unit (message_arrived msg unit.node) (b.received msg unit)
+  pub halted : (unit : UnitState) → unit.halted ≡ true → b.ready unit ≡ false
+  -- a unit that waits waits for a request, for data, or for its queue
+  pub waits : (unit : UnitState) → unit.halted ≡ false → b.ready unit ≡ false → (waits_for_any unit.node || holds_back unit.node.out) ≡ true
