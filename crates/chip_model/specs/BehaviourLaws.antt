@@ -1,12 +1,12 @@
 -- The laws of a behaviour: what a core event, a delivery and data may do to a unit, whatever kind of core it has.
-use Rattle.std.specs.Prelude.{◌≡◌, ◌⊎◌, ℕ, ◌*◌, ◌<◌, ◌≤◌, true, false, ◌||◌, List, [], ◌∷◌, ◌++◌, Option, Some, None, IfSome}
+use Rattle.std.specs.Prelude.{◌≡◌, ◌⊎◌, ℕ, ◌*◌, ◌<◌, ◌≤◌, true, false, ◌||◌, [], ◌∷◌, ◌++◌, Option, Some, None, IfSome}
 use Rattle.mesh_gen.specs.declared.request.Request.{Request}
 use Rattle.mesh_gen.specs.declared.msg.Msg.{Msg}
 use Rattle.report_text.specs.declared.access.Access.{Access}
 use Rattle.report_text.specs.Accesses.{writes}
 use Rattle.chip_model.specs.declared.done.Done.{Done}
 use Rattle.chip_model.specs.declared.pending.Pending.{Pending}
-use Rattle.chip_model.specs.Node.{Node, Performed, waits_for_any, holds_back, accessed, request_delivered, message_arrived}
+use Rattle.chip_model.specs.Node.{Performed, waits_for_any, holds_back, accessed, request_delivered, message_arrived}
 use Rattle.chip_model.specs.Units.{UnitState, BufferedStore, Acted, Behaviour, access_of}
 
 -- the access of instruction number n that a unit's node performed

@@ -1,11 +1,10 @@
 -- What a tile's node and interface agree on with the global order: which requests it made, posted and delivered, and which
 -- of them its demand and its write-back stand for.
-use Rattle.std.specs.Prelude.{◌≡◌, ℕ, ◌+◌, ◌<◌, ◌≤◌, ◌==◌, Bool, true, false, not, ◌&&◌, List, [], ◌∷◌, length, map, take, drop, filter, Option, Some, None, is_none, slice_get, if◌then◌else◌}
+use Rattle.std.specs.Prelude.{◌≡◌, ℕ, ◌+◌, ◌<◌, ◌==◌, Bool, true, false, not, ◌&&◌, List, [], ◌∷◌, map, take, drop, filter, Option, Some, None, is_none, slice_get, if◌then◌else◌}
 use Rattle.std.specs.List.{list_any}
 use Rattle.mesh_gen.specs.declared.kind.Kind.{Kind}
 use Rattle.mesh_gen.specs.declared.kind.Kind.TheVariants.{GetS, GetM, PutM}
 use Rattle.mesh_gen.specs.declared.request.Request.{Request}
-use Rattle.mesh_gen.specs.TileSet.{has_tile}
 use Rattle.order_tracker.specs.Order.{times, order}
 use Rattle.chip_model.specs.declared.waiting.Waiting.{Waiting}
 use Rattle.chip_model.specs.Chip.{Chip, tile_count}
