@@ -162,6 +162,7 @@ const WRITE: Access = Access {
     value: 1,
     ..READ
 };
+
 const OPEN: Access = Access {
     number: 6,
     address: 0,
