@@ -1,6 +1,6 @@
 ghost use Rattle.std.specs.Prelude.{◌≡◌, ◌+◌, ◌<◌, ◌≤◌, ◌^◌, None, Some, false, IsTrue, MatchBool, length, if◌then◌else◌};
 ghost use Rattle.core_isa.specs.Program.{IsProgram, IsRegister, IsWithin, limit};
-ghost use Rattle.core_isa.specs.Core.{IsCore, new_core, register, gone_to, gone_on, with_result, instr_at, next_of, is_halt, is_load, is_store, is_read_modify_write, stepped, advanced, loaded, stored, DidMore};
+ghost use Rattle.core_isa.specs.Core.{IsCore, new_core, register, wrapped_sum, gone_to, gone_on, with_result, instr_at, next_of, is_halt, is_load, is_store, is_read_modify_write, stepped, advanced, loaded, stored, DidMore};
 
 use crate::{Instr, Next, Program};
 use std::marker::Model;
@@ -56,20 +56,20 @@ impl Core {
         match self.instr(program) {
             Instr::Ld { rd, ra, n } => Next::Load {
                 rd,
-                address: self.register(ra).wrapping_add(n),
+                address: self.address(ra, n),
             },
             Instr::St { rs, ra, n } => Next::Store {
-                address: self.register(ra).wrapping_add(n),
+                address: self.address(ra, n),
                 value: self.register(rs),
             },
             Instr::Swap { rd, ra, n } => Next::Swap {
                 rd,
-                address: self.register(ra).wrapping_add(n),
+                address: self.address(ra, n),
                 value: self.register(rd),
             },
             Instr::Fadd { rd, ra, n } => Next::Add {
                 rd,
-                address: self.register(ra).wrapping_add(n),
+                address: self.address(ra, n),
                 value: self.register(rd),
             },
             Instr::Halt => Next::Halted,
@@ -188,6 +188,14 @@ impl Core {
         ensures { result ≡ register r self.now }
     {
         self.registers[usize::from(r)]
+    }
+
+    // The address of an access: a register and a number.
+    fn address(&self, ra: u8, n: u32) -> u32
+        requires { IsRegister ra }
+        ensures { result ≡ wrapped_sum (register ra self.now) n }
+    {
+        self.register(ra).wrapping_add(n)
     }
 
     // An instruction with this result is done.

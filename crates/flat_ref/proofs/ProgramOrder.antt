@@ -7,7 +7,7 @@ use Rattle.core_isa.specs.Core.{CoreState}
 use Rattle.report_text.specs.declared.access.Access.{Access}
 use Rattle.flat_ref.specs.declared.flat.Flat.{Flat}
 use Rattle.flat_ref.specs.Taking.{taken, taken_all}
-use Rattle.flat_ref.specs.Order.{IsLoadOf, IsStoreOf}
+use Rattle.flat_ref.specs.Order.{IsAccessOf}
 use Rattle.flat_ref.proofs.Runs.{taken_all_none, taken_all_cons, taken_all-append}
 use Rattle.flat_ref.proofs.Takings.{Counted, Received, takes}
 
@@ -30,9 +30,11 @@ record HasDone (flat : Flat) (t n : ℕ) : Type 0 where
   its_core : slice_get flat.cores t ≡ Some core
   done : n ≤ core.steps
 
-one_done : (program : List Instr) (ready after : CoreState) (old new : List ℕ) (a : Access) → IsLoadOf program ready after old new a ⊎ IsStoreOf program ready after old new a → after.steps ≡ ready.steps + 1
+one_done : (program : List Instr) (ready after : CoreState) (old new : List ℕ) (a : Access) → IsAccessOf program ready after old new a → after.steps ≡ ready.steps + 1
 one_done program ready after old new a (inl l) = ap (λ (core : CoreState). core.steps) l.core
-one_done program ready after old new a (inr s) = ap (λ (core : CoreState). core.steps) s.core
+one_done program ready after old new a (inr (inl s)) = ap (λ (core : CoreState). core.steps) s.core
+one_done program ready after old new a (inr (inr (inl s))) = ap (λ (core : CoreState). core.steps) s.core
+one_done program ready after old new a (inr (inr (inr s))) = ap (λ (core : CoreState). core.steps) s.core
 
 -- an access that was taken is done
 done_after : Counted → Received → (programs : List (List Instr)) (old new : Flat) (a : Access) → taken programs old a ≡ Some new → HasDone new a.tile (a.number + 1)

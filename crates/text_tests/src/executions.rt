@@ -129,7 +129,7 @@ fn cores_count_together(rt: HostRuntime) -> Result<(), Fail> {
     let code = "li r1 2\nnext: li r2 1\nfadd r2 r0 0\naddi r3 r3 1\nbne r3 r1 next";
     let document = two_tiles(rt.alloc(), code)?;
     let flat = check(rt.alloc(), &document, &COUNTING, &[9, 9])?;
-    assert_eq!(rt; flat.memory.as_slice()[0], 4);
+    assert_eq!(rt; flat.memory.as_slice(), [4, 0, 0, 0, 0, 0, 0, 0].as_slice());
     Ok(())
 }
 
@@ -162,6 +162,7 @@ const WRITE: Access = Access {
     value: 1,
     ..READ
 };
+
 const OPEN: Access = Access {
     number: 6,
     address: 0,

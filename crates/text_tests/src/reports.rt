@@ -2,9 +2,9 @@
 ghost use Rattle.std.specs.Prelude.{IfOk};
 ghost use Rattle.report_text.specs.Report.{IsTabular};
 
-use report_text::{Access, AccessKind, Event, Finish, Report, read_events, write_report};
 use mesh_gen::{Items, Kind, Port, Request};
 use outside_io::{MemSink, WriteFault};
+use report_text::{Access, AccessKind, Event, Finish, Report, read_events, write_report};
 use std::alloc::{AllocError, Global};
 use std::test::Fail;
 
