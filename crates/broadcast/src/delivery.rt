@@ -1,6 +1,6 @@
 //! The broadcast of all that a description posts.
 ghost use Rattle.std.specs.Prelude.{◌≡◌, ◌≤◌, IfOk};
-ghost use Rattle.mesh_gen.specs.Limits.{AreTiles};
+ghost use Rattle.mesh_gen.specs.Limits.{AreTiles, most_tiles};
 ghost use Rattle.mesh_gen.specs.TileSet.{set_of};
 ghost use Rattle.doc_text.specs.Doc.{doc_of};
 ghost use Rattle.chip_model.specs.Chip.{chip_of_mesh};
@@ -16,7 +16,7 @@ use std::alloc::Global;
 // The set of the tiles that post in a window.
 fn posts_of(tiles: &[u8], count: u8) -> u64
     requires tiles { AreTiles count tiles.now }
-    requires few { count ≤ 36 }
+    requires few { count ≤ most_tiles }
     ensures { result ≡ set_of tiles.now }
 {
     set_of(tiles)

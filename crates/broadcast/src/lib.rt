@@ -6,6 +6,3 @@ mod passes;
 mod window;
 
 pub use delivery::broadcast_posts;
-
-#[cfg(test)]
-mod tests;

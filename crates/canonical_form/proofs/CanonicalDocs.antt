@@ -2,7 +2,7 @@
 use Rattle.std.proofs.Common.{◌≡◌, ℕ, ◌*◌, ◌<◌, ◌≤◌, ◌^◌, List, Result, Ok, ◌∙◌, ap, arith, mul-le-mul}
 use Rattle.std.specs.List.{All, AllByRecursion}
 use Rattle.std.proofs.lemmas.List.Elements.{All-from_recursion}
-use Rattle.mesh_gen.specs.Limits.{IsFrom, AreTiles}
+use Rattle.mesh_gen.specs.Limits.{IsFrom, AreTiles, most_tiles}
 use Rattle.doc_text.specs.declared.fault.DocFault.{DocFault}
 use Rattle.doc_text.specs.Canonical.{canonical}
 use Rattle.doc_text.specs.Doc.{Doc}
@@ -22,16 +22,16 @@ small least most n is few = omega (arith, is.high)
 all_small : (P : ℕ → Type 0) → ((n : ℕ) → P n → IsWritableNumber n) → (list : List ℕ) → AllByRecursion P list → All IsWritableNumber list
 all_small P weaker list all = All-from_recursion IsWritableNumber list (all_of P IsWritableNumber weaker list all)
 
-tiles_small : (count : ℕ) → count ≤ 36 → (list : List ℕ) → AreTiles count list → All IsWritableNumber list
+tiles_small : (count : ℕ) → count ≤ most_tiles → (list : List ℕ) → AreTiles count list → All IsWritableNumber list
 tiles_small count few list are = all_small (λ t. t < count) (λ t inside. omega arith) list are.inside
 
-few_tiles : (doc : Doc) → KeepsLimits doc → doc.cols * doc.rows ≤ 36
+few_tiles : (doc : Doc) → KeepsLimits doc → doc.cols * doc.rows ≤ most_tiles
 few_tiles doc limits = mul-le-mul limits.cols.high limits.rows.high
 
 writable : (doc : Doc) → KeepsLimits doc → IsWritable doc
 writable doc limits =
     let tiles = doc.cols * doc.rows in
-    let few : tiles ≤ 36 = few_tiles doc limits in
+    let few : tiles ≤ most_tiles = few_tiles doc limits in
     record {
       cols = omega (arith, limits.cols.high);
       rows = omega (arith, limits.rows.high);

@@ -1,7 +1,7 @@
 -- Each value of the canonical table keeps to its limit.
 use Rattle.std.proofs.Common.{◌≡◌, ℕ, ◌+◌, ◌-◌, ◌*◌, ◌≤◌, max, true, List, [], ◌∷◌, length, Some, refl, arith}
 use Rattle.std.specs.List.{flat_map}
-use Rattle.mesh_gen.specs.Limits.{IsFrom}
+use Rattle.mesh_gen.specs.Limits.{IsFrom, most_side}
 use Rattle.core_isa.specs.declared.instr.Instr.{Instr}
 use Rattle.toml.specs.Data.{array, Members}
 use Rattle.doc_text.specs.declared.key.Key.{Key}
@@ -70,7 +70,7 @@ size_fits : (doc : Doc) (top : Members) → IsMesh doc (mesh_table top) → Keep
 size_fits doc top said limits =
     let mesh = mesh_table top in
     let sizes = mesh_sizes top in
-    rw (number_fits sizes mesh Cols 1 6 doc.cols refl said.cols limits.cols, number_fits sizes mesh Rows 1 6 doc.rows refl said.rows limits.rows) refl
+    rw (number_fits sizes mesh Cols 1 most_side doc.cols refl said.cols limits.cols, number_fits sizes mesh Rows 1 most_side doc.rows refl said.rows limits.rows) refl
 
 tiles_fit : (doc : Doc) (top : Members) → IsWhole doc top → KeepsLimits doc → of_tiles top ≡ []
 tiles_fit doc top said limits = rw (said.cores) (cores_fit (tile_count top) 0 0 doc.programs (omega (arith, limits.programs, count_said doc top said.mesh)))

@@ -1,5 +1,6 @@
 -- The table of a description's keys.
 use Rattle.std.specs.Prelude.{ℕ, List, [], ◌∷◌, codes}
+use Rattle.mesh_gen.specs.Limits.{most_side}
 use Rattle.doc_text.specs.declared.key.Level.{Level}
 use Rattle.doc_text.specs.declared.key.Level.TheVariants as level
 use Rattle.doc_text.specs.declared.key.Key.{Key}
@@ -25,8 +26,8 @@ abbrev pub row_of : Key → Row
 row_of Mesh = record { level = level.Top; name = codes "mesh"; shape = shape.Table; omitted = omitted.Refused; limit = limit.Free }
 row_of Posts = record { level = level.Top; name = codes "posts"; shape = shape.Lists; omitted = omitted.Empty; limit = limit.Windows }
 row_of Core = record { level = level.Top; name = codes "core"; shape = shape.Tables; omitted = omitted.Empty; limit = limit.Free }
-row_of Cols = record { level = level.Mesh; name = codes "cols"; shape = shape.Integer; omitted = omitted.Refused; limit = limit.Number 1 6 }
-row_of Rows = record { level = level.Mesh; name = codes "rows"; shape = shape.Integer; omitted = omitted.Refused; limit = limit.Number 1 6 }
+row_of Cols = record { level = level.Mesh; name = codes "cols"; shape = shape.Integer; omitted = omitted.Refused; limit = limit.Number 1 most_side }
+row_of Rows = record { level = level.Mesh; name = codes "rows"; shape = shape.Integer; omitted = omitted.Refused; limit = limit.Number 1 most_side }
 row_of Window = record { level = level.Mesh; name = codes "window"; shape = shape.Integer; omitted = omitted.Refused; limit = limit.Ticks }
 row_of Vcs = record { level = level.Mesh; name = codes "vcs"; shape = shape.Integer; omitted = omitted.Default 1; limit = limit.Number 1 8 }
 row_of DataVcs = record { level = level.Mesh; name = codes "data_vcs"; shape = shape.Integer; omitted = omitted.Default 1; limit = limit.Number 1 4 }

@@ -3,6 +3,7 @@ ghost use Rattle.doc_text.specs.Keys.{row_of, keys_at};
 ghost use Rattle.doc_text.specs.Messages.{key_text};
 
 use crate::{Limit, Omitted, Shape};
+use mesh_gen::MOST_SIDE;
 use std::fmt;
 
 /// A table of a description that has keys of its own.
@@ -130,7 +131,7 @@ impl Key {
         match self {
             Key::Mesh | Key::Core | Key::Code => Limit::Free,
             Key::Posts => Limit::Windows,
-            Key::Cols | Key::Rows => Limit::Number { least: 1, most: 6 },
+            Key::Cols | Key::Rows => Limit::Number { least: 1, most: u16::from(MOST_SIDE) },
             Key::Window => Limit::Ticks,
             Key::Vcs => Limit::Number { least: 1, most: 8 },
             Key::DataVcs | Key::Ways => Limit::Number { least: 1, most: 4 },

@@ -4,7 +4,7 @@ use Rattle.std.specs.Prelude.{replicate}
 use Rattle.std.specs.List.{flat_map, AllByRecursion}
 use Rattle.std.specs.Option.{unwrap_or}
 use Rattle.std.proofs.lemmas.List.{length-append, length-map, length-replicate}
-use Rattle.mesh_gen.specs.Limits.{IsFrom, AreTiles}
+use Rattle.mesh_gen.specs.Limits.{IsFrom, AreTiles, most_side}
 use Rattle.mesh_gen.proofs.OneTile.{product_positive}
 use Rattle.toml.specs.Data.{Data, Members}
 use Rattle.doc_text.specs.declared.key.Key.{Key}
@@ -50,7 +50,7 @@ number_kept least most datum is =
 
 -- ---- lists
 
-positive : (top : Members) → IsFrom 1 6 (mesh_sizes top).cols → IsFrom 1 6 (mesh_sizes top).rows → 0 < tile_count top
+positive : (top : Members) → IsFrom 1 most_side (mesh_sizes top).cols → IsFrom 1 most_side (mesh_sizes top).rows → 0 < tile_count top
 positive top cols rows = product_positive (mesh_sizes top).cols (mesh_sizes top).rows cols.low rows.low
 
 controllers_kept : (top : Members) → 0 < tile_count top → is_some (tiles (tile_count top) (value Controllers (mesh_table top))) ≡ true → controllers_twice (controllers top) ≡ []
@@ -123,8 +123,8 @@ keeps top is =
     let (memory, _) = halves (numbers top Memory) [] rest_8 in
     let mesh = mesh_table top in
     let sizes = mesh_sizes top in
-    let cols_kept = number_kept 1 6 (value Cols mesh) (kept sizes mesh Cols cols) in
-    let rows_kept = number_kept 1 6 (value Rows mesh) (kept sizes mesh Rows rows) in
+    let cols_kept = number_kept 1 most_side (value Cols mesh) (kept sizes mesh Cols cols) in
+    let rows_kept = number_kept 1 most_side (value Rows mesh) (kept sizes mesh Rows rows) in
     let some = positive top cols_kept rows_kept in
     let words_kept = memory_kept sizes.lines (value Memory mesh) (kept sizes mesh Memory memory) in
     record {

@@ -1,14 +1,14 @@
 -- What holds of every description that is accepted.
 use Rattle.std.specs.Prelude.{◌≡◌, ◌+◌, ◌-◌, ◌*◌, max, length}
 use Rattle.std.specs.List.{AllByRecursion}
-use Rattle.mesh_gen.specs.Limits.{IsFrom, AreTiles}
+use Rattle.mesh_gen.specs.Limits.{IsFrom, AreTiles, most_side}
 use Rattle.doc_text.specs.Limits.{ArePosts}
 use Rattle.doc_text.specs.Doc.{Doc}
 
 -- every limit of a description
 pub record KeepsLimits (doc : Doc) : Type 0 where
-  pub cols : IsFrom 1 6 doc.cols
-  pub rows : IsFrom 1 6 doc.rows
+  pub cols : IsFrom 1 most_side doc.cols
+  pub rows : IsFrom 1 most_side doc.rows
   pub window : IsFrom (max 1 ((doc.cols - 1) + (doc.rows - 1))) 64 doc.window
   pub vcs : IsFrom 1 8 doc.vcs
   pub data_vcs : IsFrom 1 4 doc.data_vcs

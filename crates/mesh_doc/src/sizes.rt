@@ -1,5 +1,5 @@
 ghost use Rattle.std.specs.Prelude.{◌≡◌, ◌+◌, ◌-◌, ◌*◌, [], ◌∷◌, max, pos, Some, None, IfOk, IfErr, IfSome, option_map};
-ghost use Rattle.mesh_gen.specs.Limits.{IsFrom};
+ghost use Rattle.mesh_gen.specs.Limits.{IsFrom, most_side, most_tiles};
 ghost use Rattle.toml.specs.View.{view, table_view};
 ghost use Rattle.doc_text.specs.Keys.{row_of};
 ghost use Rattle.doc_text.specs.declared.key.Key.TheVariants.{Cols as AtCols, Rows as AtRows, Window as AtWindow, Vcs as AtVcs, DataVcs as AtDataVcs, Lines as AtLines, Sets as AtSets, Ways as AtWays};
@@ -12,6 +12,7 @@ ghost use Rattle.mesh_doc.specs.MeshSeen.{mesh_seen};
 use crate::part::written;
 use crate::values::number_in;
 use doc_text::{DocFault, Key, Omitted};
+use mesh_gen::MOST_SIDE;
 use toml::{Table, Value};
 
 /// How many columns and rows of tiles there are.
@@ -19,8 +20,8 @@ use toml::{Table, Value};
 pub(crate) struct Extent {
     pub(crate) cols: u8,
     pub(crate) rows: u8,
-    ghost cols_limit: { IsFrom 1 6 cols },
-    ghost rows_limit: { IsFrom 1 6 rows },
+    ghost cols_limit: { IsFrom 1 most_side cols },
+    ghost rows_limit: { IsFrom 1 most_side rows },
 }
 
 /// The numbers of a mesh.
@@ -108,8 +109,9 @@ impl Extent {
         ensures finds { Finds (range_faults (mesh_seen mesh.entry) (AtCols ∷ AtRows ∷ [])) result }
         ensures said { IfOk result (IsExtentOf (mesh_seen mesh.entry)) }
     {
-        let cols = number(mesh, Key::Cols, 1, 6)?;
-        let rows = number(mesh, Key::Rows, 1, 6)?;
+        let most = u32::from(MOST_SIDE);
+        let cols = number(mesh, Key::Cols, 1, most)?;
+        let rows = number(mesh, Key::Rows, 1, most)?;
         Ok(Extent {
             cols: cols as u8,
             rows: rows as u8,
@@ -119,7 +121,7 @@ impl Extent {
     /// How many tiles there are.
     pub(crate) fn tiles(&self) -> u8
         ensures tiles { result ≡ self.now.cols * self.now.rows }
-        ensures limits { IsFrom 1 36 result }
+        ensures limits { IsFrom 1 most_tiles result }
     {
         self.cols * self.rows
     }

@@ -18,7 +18,7 @@ mod words;
 
 pub use items::{Counts, Image, Items, Requests, Tiles};
 pub use kind::Kind;
-pub use mesh::Mesh;
+pub use mesh::{MOST_SIDE, Mesh};
 pub use msg::Msg;
 pub use msg_kind::MsgKind;
 pub use port::Port;
@@ -30,6 +30,3 @@ pub use text::Text;
 pub use tile_set::{has_tile, set_of, with_tile};
 pub use tree::tree_laws;
 pub use words::Words;
-
-#[cfg(test)]
-mod tests;

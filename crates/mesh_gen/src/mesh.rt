@@ -1,8 +1,11 @@
 ghost use Rattle.std.specs.Prelude.{◌≡◌, ◌+◌, ◌-◌, ◌*◌, ◌<◌, ◌≤◌, max};
-ghost use Rattle.mesh_gen.specs.Limits.{IsFrom, AreTiles};
+ghost use Rattle.mesh_gen.specs.Limits.{IsFrom, AreTiles, most_side, most_tiles};
 
 use crate::{Items, NoMemory, Port, Tiles};
 use std::alloc::Global;
+
+/// The most columns that a mesh has, and the most rows.
+pub const MOST_SIDE: u8 = 8;
 
 /// The sizes of a chip.
 #[derive(Debug, Drop)]
@@ -25,8 +28,8 @@ pub struct Mesh {
     pub ways: u8,
     /// The tiles with a memory controller, each once.
     pub controllers: Tiles,
-    ghost cols_limit: { IsFrom 1 6 cols },
-    ghost rows_limit: { IsFrom 1 6 rows },
+    ghost cols_limit: { IsFrom 1 most_side cols },
+    ghost rows_limit: { IsFrom 1 most_side rows },
     ghost window_limit: { IsFrom (max 1 ((cols - 1) + (rows - 1))) 64 window },
     ghost vcs_limit: { IsFrom 1 8 vcs },
     ghost data_vcs_limit: { IsFrom 1 4 data_vcs },
@@ -45,8 +48,8 @@ impl Mesh {
     /// A mesh of these sizes, whose other fields have their defaults: one channel of each kind a port, 16 lines, 4 sets
     /// of one way, and one controller, at tile 0.
     pub fn of_size(alloc: Global, cols: u8, rows: u8, window: u8) -> Result<Mesh, NoMemory>
-        requires cols { IsFrom 1 6 cols }
-        requires rows { IsFrom 1 6 rows }
+        requires cols { IsFrom 1 most_side cols }
+        requires rows { IsFrom 1 most_side rows }
         requires window { IsFrom (max 1 ((cols - 1) + (rows - 1))) 64 window }
         ensures { IfOk result (HasSize cols rows window) }
     {
@@ -83,7 +86,7 @@ impl Mesh {
     /// How many tiles there are.
     pub fn tiles(&self) -> u8
         ensures tiles { result ≡ tiles (grid self.now) }
-        ensures limits { IsFrom 1 36 result }
+        ensures limits { IsFrom 1 most_tiles result }
         ensures some { HasTiles (grid self.now) }
     {
         self.cols * self.rows

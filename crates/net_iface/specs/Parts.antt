@@ -3,6 +3,7 @@ use Rattle.std.specs.Prelude.{◌≡◌, ℕ, ◌+◌, ◌^◌, ◌<◌, ◌≤�
 use Rattle.std.specs.List.{AllByRecursion, range_with_len}
 use Rattle.circular_buffer.specs.Buffer.{Buffer}
 use Rattle.mesh_gen.specs.declared.request.Request.{Request}
+use Rattle.mesh_gen.specs.Limits.{most_tiles}
 use Rattle.mesh_gen.specs.TileSet.{has_tile}
 use Rattle.vc_bank.specs.Places.{Network, at}
 use Rattle.order_tracker.specs.Order.{order}
@@ -61,7 +62,7 @@ state_of p = record { chip = p.chip; network = network_of p; room = p.room }
 -- the parts are of one chip, and each has a place for each tile
 pub record AreSized (p : Parts) : Type 0 where
   pub some : 0 < tile_count p.chip
-  pub few : tile_count p.chip ≤ 36
+  pub few : tile_count p.chip ≤ most_tiles
   pub grid : p.routers.grid ≡ p.chip.grid
   pub vcs : p.routers.vcs ≡ p.chip.vcs
   pub windows_grid : p.windows.grid ≡ p.chip.grid

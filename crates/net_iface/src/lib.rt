@@ -7,6 +7,3 @@ mod requests;
 mod trackers;
 
 pub use ordered_net::OrderedNet;
-
-#[cfg(test)]
-mod tests;

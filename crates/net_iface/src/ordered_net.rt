@@ -1,5 +1,6 @@
 ghost use Rattle.std.specs.Prelude.{◌≡◌, ◌+◌, ◌-◌, ◌^◌, ◌<◌, ◌≤◌, Some, None, IfOk, OnOk, OnErr, is_some, option_map, length, slice_get, slice_index};
 ghost use Rattle.std.specs.Bool.{OnTrue};
+ghost use Rattle.mesh_gen.specs.Limits.{most_tiles};
 ghost use Rattle.chip_model.specs.Chip.{chip_of_mesh, tile_count};
 ghost use Rattle.chip_model.specs.NetworkShape.{HasChannels, WindowsFit};
 ghost use Rattle.chip_model.specs.OrderedNetwork.{Interface, next_request, injected, request_posted, network_ticked, vector_taken, expected_at, expected_behind, copy_hopped, delivered_next};
@@ -92,7 +93,7 @@ impl OrderedNet {
     /// How many tiles there are.
     pub fn tiles(&self) -> u8
         ensures tiles { result ≡ tile_count self.now.chip }
-        ensures limits { (0 < result) × (result ≤ 36) }
+        ensures limits { (0 < result) × (result ≤ most_tiles) }
         // What is true of an ordered network at any moment.
         ensures fits { NetworkFits self.now.chip self.now.network }
         ensures few_left { FewAreLeft self.now.chip self.now.network }

@@ -6,6 +6,3 @@ mod latches;
 mod links;
 
 pub use latches::Latches;
-
-#[cfg(test)]
-mod tests;

@@ -6,6 +6,3 @@ mod tile_set;
 mod tracker;
 
 pub use tracker::Tracker;
-
-#[cfg(test)]
-mod tests;

@@ -6,7 +6,7 @@ use Rattle.mesh_gen.specs.declared.msg.Msg.{Msg}
 use Rattle.mesh_gen.specs.declared.port.Port.{Port}
 use Rattle.mesh_gen.specs.declared.port.Port.TheVariants.{L, E, W, N, S}
 use Rattle.mesh_gen.specs.Grid.{Grid, tiles, neighbour}
-use Rattle.mesh_gen.specs.Limits.{IsFrom}
+use Rattle.mesh_gen.specs.Limits.{IsFrom, most_side, most_tiles}
 use Rattle.mesh_gen.specs.Ports.{port_number, opposite}
 use Rattle.mesh_gen.specs.Routes.{HasTiles, route, rank, MayStand}
 use Rattle.vc_bank.specs.Channels.{Channels, slots_at, with_packet, IsFree, empty_channels}
@@ -195,7 +195,7 @@ length-slots-empty data_vcs zero r port inside = absurd (omega arith)
 length-slots-empty data_vcs (suc count) zero port inside = length-slots_at-empty data_vcs port
 length-slots-empty data_vcs (suc count) (suc r) port inside = length-slots-empty data_vcs count r port (omega arith)
 
-pub sound_empty : (g : Grid) (data_vcs : ℕ) (net : Network Msg) → HasTiles g → tiles g ≤ 36 → 0 < data_vcs → data_vcs ≤ 4 → net ≡ no_replies g data_vcs → IsSound (record { grid = g; messages = net })
+pub sound_empty : (g : Grid) (data_vcs : ℕ) (net : Network Msg) → HasTiles g → tiles g ≤ most_tiles → 0 < data_vcs → data_vcs ≤ 4 → net ≡ no_replies g data_vcs → IsSound (record { grid = g; messages = net })
 sound_empty g data_vcs net some small some_vcs few is =
     subst (λ (net : Network Msg). IsSound (record { grid = g; messages = net })) (sym is) (record {
       some = some;
@@ -205,9 +205,9 @@ sound_empty g data_vcs net some small some_vcs few is =
       on_ways = λ r port slot msg stands. absurd (no_message g data_vcs r (port_number port) slot msg stands);
     })
   where
-    most_slots : (count each total : ℕ) → count ≤ 36 → each ≤ 4 → total ≡ count * (5 * each) → total ≤ 720
+    most_slots : (count each total : ℕ) → count ≤ most_tiles → each ≤ 4 → total ≡ count * (5 * each) → total ≤ most_channels
     most_slots count each total small few is =
-        let rows : count * (5 * each) ≤ 36 * (5 * each) = mul-le-mul_right (5 * each) small in
+        let rows : count * (5 * each) ≤ most_tiles * (5 * each) = mul-le-mul_right (5 * each) small in
         omega arith
 
 pub nothing_weighs : (w : Msg → ℕ) (g : Grid) (data_vcs : ℕ) → total w (no_replies g data_vcs) ≡ 0
@@ -217,7 +217,7 @@ pub count_empty : (g : Grid) (data_vcs : ℕ) (net : Network Msg) → net ≡ no
 count_empty g data_vcs net is = sym (ap message_count is ∙ nothing_weighs (λ msg. 1) g data_vcs)
 
 -- the same of a mesh of one's own with the size of the mesh that was given
-pub sound_opened : (own given : Grid) (data_vcs : ℕ) (net : Network Msg) → own.cols ≡ given.cols → own.rows ≡ given.rows → IsFrom 1 6 given.cols → IsFrom 1 6 given.rows → IsFrom 1 4 data_vcs → net ≡ no_replies given data_vcs → IsSound (record { grid = own; messages = net })
+pub sound_opened : (own given : Grid) (data_vcs : ℕ) (net : Network Msg) → own.cols ≡ given.cols → own.rows ≡ given.rows → IsFrom 1 most_side given.cols → IsFrom 1 most_side given.rows → IsFrom 1 4 data_vcs → net ≡ no_replies given data_vcs → IsSound (record { grid = own; messages = net })
 sound_opened own given data_vcs net cols rows cols_limit rows_limit vcs_limit is =
     let some_column = cols_limit.low in
     let some_row = rows_limit.low in

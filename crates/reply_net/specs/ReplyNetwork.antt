@@ -1,8 +1,9 @@
 -- The reply network as plain data, and what stands in its channels.
-use Rattle.std.specs.Prelude.{◌≡◌, ◌≢◌, ◌<◌, ◌≤◌, ℕ, length, Option, Some, None}
+use Rattle.std.specs.Prelude.{◌≡◌, ◌≢◌, ◌*◌, ◌<◌, ◌≤◌, ℕ, length, Option, Some, None}
 use Rattle.mesh_gen.specs.declared.msg.Msg.{Msg}
 use Rattle.mesh_gen.specs.declared.port.Port.{Port}
 use Rattle.mesh_gen.specs.Grid.{Grid, tiles}
+use Rattle.mesh_gen.specs.Limits.{most_tiles}
 use Rattle.mesh_gen.specs.Ports.{port_number}
 use Rattle.mesh_gen.specs.Routes.{HasTiles, MayStand, rank}
 use Rattle.vc_bank.specs.Places.{Network, slots, at, weigh, slot_count}
@@ -46,9 +47,9 @@ abbrev pub HaveChannels : Grid → Network Msg → Type 0
 HaveChannels g net =
     (count : ℕ) × (0 < count) × ((r : ℕ) (port : Port) → r < tiles g → length (slots net r (port_number port)) ≡ count)
 
--- a chip of at most 36 routers with five ports of at most four channels each has at most so many
+-- a chip whose routers have five ports of at most four channels each has at most so many channels
 abbrev pub most_channels : ℕ
-most_channels = 720
+most_channels = most_tiles * 20
 
 -- there are routers, one for each tile, with channels, and the messages in them are on their ways
 pub record IsSound (net : ReplyNetwork) : Type 0 where

@@ -8,6 +8,3 @@ mod replies;
 
 pub use laws::reply_laws;
 pub use replies::Replies;
-
-#[cfg(test)]
-mod tests;

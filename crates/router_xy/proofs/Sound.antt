@@ -7,7 +7,7 @@ use Rattle.std.proofs.lemmas.Option.{slice_get_within, slice_get-get_or, get_or_
 use Rattle.mesh_gen.specs.declared.request.Request.{Request}
 use Rattle.mesh_gen.specs.declared.port.Port.{Port}
 use Rattle.mesh_gen.specs.Grid.{Grid, tiles}
-use Rattle.mesh_gen.specs.Limits.{IsFrom}
+use Rattle.mesh_gen.specs.Limits.{IsFrom, most_side}
 use Rattle.mesh_gen.specs.Ports.{port_number, opposite}
 use Rattle.mesh_gen.specs.Routes.{HasTiles}
 use Rattle.mesh_gen.proofs.Beside.{neighbour_inside}
@@ -137,7 +137,7 @@ sound_empty g vcs some limit = record {
 }
 
 -- the same of a mesh of one's own with the size of the mesh that was given
-pub sound_opened : (own given : Grid) (vcs : ℕ) (net : Network NetCopy) → own.cols ≡ given.cols → own.rows ≡ given.rows → IsFrom 1 6 given.cols → IsFrom 1 6 given.rows → IsFrom 1 8 vcs → net ≡ no_copies given vcs → sound own vcs net
+pub sound_opened : (own given : Grid) (vcs : ℕ) (net : Network NetCopy) → own.cols ≡ given.cols → own.rows ≡ given.rows → IsFrom 1 most_side given.cols → IsFrom 1 most_side given.rows → IsFrom 1 8 vcs → net ≡ no_copies given vcs → sound own vcs net
 sound_opened own given vcs net cols rows cols_limit rows_limit vcs_limit is =
     let some_column = cols_limit.low in
     let some_row = rows_limit.low in

@@ -12,6 +12,3 @@ mod way;
 pub use chip_model::NetCopy;
 pub use laws::owed_laws;
 pub use routers::Routers;
-
-#[cfg(test)]
-mod tests;

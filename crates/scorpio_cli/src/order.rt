@@ -1,7 +1,7 @@
 ghost use Rattle.std.specs.Prelude.{◌≡◌, ◌<◌, ◌≤◌, ◌+◌, ◌-◌, ◌*◌, ◌^◌, ℕ, [], length, map, IfOk, OnErr, slice_index};
 ghost use Rattle.std.specs.List.{AllByRecursion};
 ghost use Rattle.mesh_gen.specs.Grid.{tiles, diameter};
-ghost use Rattle.mesh_gen.specs.Limits.{AreTiles};
+ghost use Rattle.mesh_gen.specs.Limits.{AreTiles, most_tiles};
 ghost use Rattle.mesh_gen.specs.TileSet.{set_of};
 ghost use Rattle.order_tracker.specs.Order.{order_from};
 ghost use Rattle.order_tracker.specs.Tracker.{left_of};
@@ -46,7 +46,7 @@ fn write_line<K: Sink>(
     ticks: u8,
     posts: &[Tiles],
 ) -> Result<(), WriteFault>
-    requires grid { (tiles latches.old.grid ≡ tracker.old.tiles) × (tracker.old.tiles ≤ 36) }
+    requires grid { (tiles latches.old.grid ≡ tracker.old.tiles) × (tracker.old.tiles ≤ most_tiles) }
     requires ticks { diameter latches.old.grid ≤ ticks }
     requires new { (tracker.old.windows ≡ []) × (tracker.old.number ≡ 0) × ((t : ℕ) → slice_index tracker.old.used t ≡ 0) × (0 < tracker.old.room) }
     requires posts { AllByRecursion (AreTiles tracker.old.tiles) posts.now }

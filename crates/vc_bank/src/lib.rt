@@ -5,6 +5,3 @@ mod bank;
 mod slots;
 
 pub use bank::Bank;
-
-#[cfg(test)]
-mod tests;

@@ -6,6 +6,3 @@ mod tile_set;
 mod windows;
 
 pub use windows::Windows;
-
-#[cfg(test)]
-mod tests;

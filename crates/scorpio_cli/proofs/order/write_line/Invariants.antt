@@ -1,6 +1,7 @@
 -- The windows so far are used up, and what is written and what is left make the line.
 use Rattle.std.proofs.Common.{◌≡◌, ◌*◌, ◌<◌, ◌≤◌, ℕ, [], drop, map}
 use Rattle.std.specs.Prelude.{slice_index}
+use Rattle.mesh_gen.specs.Limits.{most_tiles}
 use Rattle.mesh_gen.specs.TileSet.{set_of}
 use Rattle.order_tracker.specs.Order.{order_from}
 use Rattle.scorpio_cli.specs.Entries.{rest_text}
@@ -17,6 +18,6 @@ invariant-loop-window g l = record {
   windows : l.tracker.windows ≡ [];
   number : l.tracker.number ≡ l.window-index;
   room : 0 < l.tracker.room;
-  used : (t : ℕ) → slice_index l.tracker.used t ≤ 36 * l.window-index;
+  used : (t : ℕ) → slice_index l.tracker.used t ≤ most_tiles * l.window-index;
   count : g.K.Sink.faults l.initial.sink ≤ g.K.Sink.faults l.sink;
 }

@@ -1,5 +1,6 @@
 use Rattle.std.proofs.Common.{◌++◌, [], refl}
 use Rattle.std.proofs.lemmas.Result.{err_from_is_err_and}
+use Rattle.mesh_gen.specs.Limits.{most_side}
 use Rattle.doc_text.specs.declared.key.Key.TheVariants.{Cols, Rows}
 use Rattle.mesh_doc.specs.Tables.{value}
 use Rattle.mesh_doc.proofs.Numbers.{number_in-number}
@@ -34,6 +35,6 @@ returns-clause-finds c =
 
 pub returns-clause-said : goal.returns-clause-said
 returns-clause-said c = record {
-  cols = number_in-number 1 6 (value Cols (mesh_seen c.args.mesh)) _ c.in_ok-cols.ensures.said;
-  rows = number_in-number 1 6 (value Rows (mesh_seen c.args.mesh)) _ c.in_ok-rows.ensures.said;
+  cols = number_in-number 1 most_side (value Cols (mesh_seen c.args.mesh)) _ c.in_ok-cols.ensures.said;
+  rows = number_in-number 1 most_side (value Rows (mesh_seen c.args.mesh)) _ c.in_ok-rows.ensures.said;
 }
