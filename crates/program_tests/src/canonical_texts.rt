@@ -1,62 +1,17 @@
 ghost use Rattle.std.specs.Prelude.{◌≡◌, [], ◌∷◌, length, IfOk};
 
-use super::*;
+use crate::fixtures::output;
 use core_isa::assemble;
+use doc_text::{Document, Posts, Programs, write_document};
 use mesh_gen::{Items, Mesh, Tiles};
-use outside_io::{MemSink, WriteFault};
+use outside_io::WriteFault;
 use std::alloc::{AllocError, Global};
 use std::test::Fail;
-
-// A sink with room for a text, of whose calls these fail.
-fn sink(alloc: Global, fails: &[u32]) -> Result<MemSink, AllocError> {
-    Ok(MemSink::new(vec![in alloc; 0; 1024]?, Vec::from_slice(alloc, fails)?))
-}
 
 fn tiles(alloc: Global, tiles: &[u8]) -> Result<Tiles, AllocError>
     ensures { IfOk result (λ list. list ≡ tiles.now) }
 {
     Ok(Items::new(Vec::from_slice(alloc, tiles)?))
-}
-
-const ONE_TILE: &str = "[mesh]
-cols = 1
-rows = 1
-window = 1
-vcs = 1
-data_vcs = 1
-lines = 1
-sets = 1
-ways = 1
-controllers = [0]
-
-[[core]]
-tile = 0
-code = '''
-li r1 7
-st r1 r0 2
-ld r2 r0 2
-halt
-'''
-";
-
-#[test]
-fn one_tile_is_shown(rt: HostRuntime) -> Result<(), Fail> {
-    let alloc = rt.alloc();
-    let mut mesh = Mesh::of_size(alloc, 1, 1, 1)?;
-    mesh.lines = 1;
-    mesh.sets = 1;
-    let mut programs = Vec::new(alloc);
-    programs.push(assemble(alloc, "li r1 7\nst r1 r0 2\nld r2 r0 2\nhalt")?)?;
-    let document = Document {
-        mesh,
-        memory: Items::new(vec![in alloc; 0; 4]?),
-        programs: Items::new(programs),
-        posts: Items::new(Vec::new(alloc)),
-    };
-    let mut sink = sink(alloc, &[])?;
-    assert_eq!(rt; write_document(&document, &mut sink), Ok(()));
-    assert_eq!(rt; sink.held(), ONE_TILE.as_bytes());
-    Ok(())
 }
 
 const FOUR_TILES: &str = "posts = [[0,3],[1]]
@@ -133,7 +88,7 @@ fn four_tiles(alloc: Global) -> Result<Document, Fail> {
 fn posts_controllers_memory_and_programs_are_shown(rt: HostRuntime) -> Result<(), Fail> {
     let alloc = rt.alloc();
     let document = four_tiles(alloc)?;
-    let mut sink = sink(alloc, &[])?;
+    let mut sink = output(alloc, &[])?;
     assert_eq!(rt; write_document(&document, &mut sink), Ok(()));
     assert_eq!(rt; sink.held(), FOUR_TILES.as_bytes());
     Ok(())
@@ -184,7 +139,7 @@ fn a_call_that_fails_cuts_the_text_between_two_pieces(rt: HostRuntime) -> Result
     let document = four_tiles(alloc)?;
     let mut before = Vec::new(alloc);
     for (call, piece) in PIECES.iter().enumerate() {
-        let mut sink = sink(alloc, &[call as u32])?;
+        let mut sink = output(alloc, &[call as u32])?;
         assert_eq!(rt;
             write_document(&document, &mut sink),
             Err(WriteFault),
