@@ -18,6 +18,3 @@ pub use fault::{DocFault, Place};
 pub use key::{Key, Level};
 pub use laws::shown_words_laws;
 pub use writing::write_document;
-
-#[cfg(test)]
-mod tests;

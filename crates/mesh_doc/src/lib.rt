@@ -16,6 +16,3 @@ pub use doc_text::{DocFault, Document, Key, Level, Place, Posts, Programs, write
 pub use end::DocEnd;
 pub use laws::accepted_keeps_limits;
 pub use reading::read_document;
-
-#[cfg(test)]
-mod tests;

@@ -1,7 +1,1 @@
-pub mod DeliveryLines
-pub mod Digits
-pub mod Following
-pub mod Forms
-pub mod Lines
-pub mod Outcomes
-pub mod Windows
+pub mod Statuses

@@ -1,8 +1,8 @@
 -- How a command ends: its statuses.
 use Rattle.std.specs.Prelude.{ℕ, Option, None, Some, Result, Ok, Err}
 use Rattle.doc_text.specs.declared.fault.DocFault.{DocFault}
-use Rattle.scorpio_cli.specs.declared.ended.Stop.{Stop}
-use Rattle.scorpio_cli.specs.declared.ended.Stop.TheVariants.{Usage, Document, ReadFault, WriteFault, NoMemory, TooLong}
+use Rattle.commands.specs.declared.stop.Stop.{Stop}
+use Rattle.commands.specs.declared.stop.Stop.TheVariants.{Usage, Document, ReadFault, WriteFault, NoMemory, TooLong}
 use Rattle.scorpio_cli.specs.declared.ended.Ended.{Ended}
 
 -- the number of each end

@@ -1,36 +1,14 @@
 ghost use Rattle.std.specs.Prelude.{◌≡◌};
 ghost use Rattle.scorpio_cli.specs.Ended.{ended_of};
-ghost use Rattle.scorpio_cli.specs.declared.ended.Stop.TheVariants.{NoMemory as OutOfMemory};
 
+use commands::Stop;
 use mesh_doc::DocFault;
-
-/// Why a command ended before its whole text was written.
-#[derive(Debug, Drop)]
-pub enum Stop {
-    /// The words are none of the forms.
-    Usage,
-    /// The document has this fault.
-    Document(DocFault),
-    ReadFault,
-    WriteFault,
-    NoMemory,
-    /// The input is longer than its limit.
-    TooLong,
-}
-
-impl From<mesh_gen::NoMemory> for Stop {
-    ghost from_gives = { λ _ stop. stop ≡ OutOfMemory };
-
-    fn from(_: mesh_gen::NoMemory) -> Stop {
-        Stop::NoMemory
-    }
-}
 
 /// How a command ended.
 #[derive(Debug, Drop)]
 pub struct Ended {
     /// 0: the whole text was written. 1: usage. 2: a faulty document. 4: a read failed. 5: a write failed.
-    /// 6: memory was wanting. 7: the input was too long.
+    /// 6: out of memory. 7: the input was too long.
     pub status: u8,
     /// A position that the status speaks of, and 0 where it speaks of none.
     pub at: u64,

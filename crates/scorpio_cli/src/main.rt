@@ -1,23 +1,21 @@
-//! `scorpio`: from words and bytes to text and a status.
+//! `scorpio`: from arguments and bytes to text and a status.
 #![tactic(auto)]
 
-ghost use Rattle.std.specs.Prelude.{◌≡◌, ◌≢◌, ◌↔◌, map, IsSome};
+ghost use Rattle.std.specs.Prelude.{◌≡◌, ◌↔◌, map, IsSome};
 ghost use Rattle.scorpio_cli.specs.Top.{IsStatus, IsNoForm};
 
-mod command;
-mod deliver;
+mod arguments;
 mod ended;
-mod line;
 mod messages;
-mod order;
 mod top;
 
-use ended::{Ended, Stop};
+use arguments::arguments;
+use commands::{Command, Stop};
+use ended::Ended;
 use outside_io::{StdSink, StdSource};
 use std::alloc::Global;
 use std::io::{BufWriter, Read, Write};
 use std::process::ExitCode;
-use std::{env, io};
 
 // How many bytes of output are gathered before they are written.
 const BUFFER: usize = 1 << 16;
@@ -25,44 +23,61 @@ const BUFFER: usize = 1 << 16;
 #[cfg(test)]
 mod tests;
 
-// Runs the command over the real ends. A flush that fails is a write fault too.
+// Runs the command over the real ends. A whole text that cannot be flushed is a write fault, and any other end stays.
 fn run<R: Read + Drop, W: Write + Drop>(
     alloc: Global,
     words: &[&str],
     reader: R,
     writer: W,
 ) -> Ended
-    ensures usage { result.status ≡ 1 → IsNoForm (map (λ word. word.now) words.now) }
-    ensures formed { IsNoForm (map (λ word. word.now) words.now) → result.status ≢ 0 }
+    ensures usage { (result.status ≡ 1) ↔ IsNoForm (map (λ word. word.now) words.now) }
     ensures statuses { IsStatus result.status }
     ensures doc_fault { IsSome result.doc_fault ↔ (result.status ≡ 2) }
 {
     let Ok(mut output) = BufWriter::with_capacity(alloc, BUFFER, writer) else {
-        return Ended::of(Err(Stop::NoMemory));
+        return out_of_memory(words);
     };
     let mut source = StdSource::new(reader);
     let mut sink = StdSink::new(&mut output);
     let ended = top::scorpio(alloc, words, &mut source, &mut sink);
     drop(sink);
-    match output.flush() {
-        Ok(()) => ended,
-        Err(_) => Ended::of(Err(Stop::WriteFault)),
+    if ended.status == 0 && output.flush().is_err() {
+        return Ended::of(Err(Stop::WriteFault));
+    }
+    ended
+}
+
+// What comes of the arguments where there is no memory for the output.
+fn out_of_memory(words: &[&str]) -> Ended
+    ensures usage { (result.status ≡ 1) ↔ IsNoForm (map (λ word. word.now) words.now) }
+    ensures statuses { IsStatus result.status }
+    ensures doc_fault { IsSome result.doc_fault ↔ (result.status ≡ 2) }
+{
+    match Command::of(words) {
+        Some(_) => Ended::of(Err(Stop::NoMemory)),
+        None => Ended::of(Err(Stop::Usage)),
     }
 }
 
-fn main(rt: HostRuntime) -> io::Result<ExitCode> {
+// Does what the arguments say.
+fn run_arguments(rt: &HostRuntime) -> Result<Ended, Stop> {
     let alloc = rt.alloc();
-    let mut arguments = Vec::new(alloc);
-    for argument in env::args(&rt)? {
-        arguments.push(argument)?;
-    }
+    let arguments = arguments(rt)?;
     let mut words = Vec::new(alloc);
-    for argument in arguments.iter().skip(1) {
+    for argument in &arguments {
         words.push(argument.as_str())?;
     }
-    let ended = run(alloc, &words, rt.stdin(), rt.stdout());
+    Ok(run(alloc, &words, rt.stdin(), rt.stdout()))
+}
+
+fn main(rt: HostRuntime) -> ExitCode {
+    let ended = match run_arguments(&rt) {
+        Ok(ended) => ended,
+        Err(stop) => Ended::of(Err(stop)),
+    };
     if ended.status != 0 {
-        eprintln!(rt; "{ended}")?;
+        // The status tells how it ended: a line that cannot be written is let go.
+        let _ = eprintln!(rt; "{ended}");
     }
-    Ok(ExitCode::from(ended.status))
+    ExitCode::from(ended.status)
 }

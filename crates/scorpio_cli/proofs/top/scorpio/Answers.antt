@@ -1,4 +1,4 @@
-use Rattle.scorpio_cli.proofs.Outcomes.{known_status}
+use Rattle.scorpio_cli.proofs.Statuses.{known_status}
 use Rattle.scorpio_cli.proofs.top.scorpio.Goals as goal
 
 pub returns-in-Some-clause-statuses : goal.returns-in-Some-clause-statuses

@@ -1,0 +1,34 @@
+-- The commands: the words of each, and the texts that each may write of a description.
+use Rattle.std.specs.Prelude.{◌≡◌, ℕ, List, [], ◌∷◌, Option, Some, None, Ok, codes, if◌then◌else◌}
+use Rattle.std.specs.Str.{bytes_eq}
+use Rattle.doc_text.specs.Doc.{Doc}
+use Rattle.doc_text.specs.Canonical.{canonical}
+use Rattle.mesh_doc.specs.Reading.{reading}
+use Rattle.commands.specs.declared.command.Command.{Command}
+use Rattle.commands.specs.declared.command.Command.TheVariants.{Order, Show, Deliver}
+use Rattle.commands.specs.Line.{order_text}
+use Rattle.commands.specs.Deliveries.{IsDelivered}
+
+abbrev pub words_of : Command → List (List ℕ)
+words_of Order = codes "order" ∷ []
+words_of Show = codes "show" ∷ []
+words_of Deliver = codes "deliver" ∷ []
+
+-- the canonical text of a description, which is read back as the same description
+pub record IsShown (doc : Doc) (text : List ℕ) : Type 0 where
+  pub canonical_is : text ≡ canonical doc
+  pub read_back : reading text ≡ Ok doc
+
+-- a text of a command for a description: the one of its order, its canonical one, or one of what its broadcast delivers
+abbrev pub IsTextOf : Command → Doc → List ℕ → Type 0
+IsTextOf Order doc text = text ≡ order_text doc
+IsTextOf Show doc text = IsShown doc text
+IsTextOf Deliver doc text = IsDelivered doc text
+
+-- the command that one word is the form of
+abbrev pub named : List ℕ → Option Command
+named word =
+    if bytes_eq word (codes "order") then Some Order
+    else if bytes_eq word (codes "show") then Some Show
+    else if bytes_eq word (codes "deliver") then Some Deliver
+    else None

@@ -1,0 +1,88 @@
+ghost use Rattle.std.specs.Prelude.{◌≡◌, ◌<◌, ◌≤◌, take, slice_index, OnOk, OnErr};
+ghost use Rattle.outside_io.specs.Streams.{Rose, Appends, AppendsPart};
+ghost use Rattle.doc_text.specs.Doc.{doc_of};
+ghost use Rattle.chip_model.specs.Chip.{tile_count};
+ghost use Rattle.chip_model.specs.OrderedNetwork.{sources};
+ghost use Rattle.chip_model.specs.Delivery.{delivered_lists};
+ghost use Rattle.net_iface.specs.OrderedNet.{delivered_counts};
+ghost use Rattle.commands.specs.Deliveries.{label_text, tile_line, deliveries_text, IsDelivered};
+ghost use Rattle.commands.specs.Outcome.{WroteSome};
+
+use crate::Stop;
+use crate::line::write_number;
+use arrayvec::ArrayString;
+use broadcast::broadcast_posts;
+use itoa::Buffer;
+use mesh_doc::Document;
+use mesh_gen::Request;
+use net_iface::OrderedNet;
+use outside_io::{Sink, WriteFault, write_piece};
+use std::alloc::Global;
+
+// Room for what stands before a tile's list: the word, a space, any number and a colon.
+const LABEL_SIZE: usize = 64;
+
+/// Broadcasts the requests of the posts over the ordered network, and writes for each tile a line of the sources of those
+/// that it has delivered, in their order.
+pub(crate) fn write_deliveries<K: Sink>(
+    alloc: Global,
+    document: &Document,
+    sink: &mut K,
+) -> Result<(), Stop>
+    ensures { WroteSome (IsDelivered (doc_of document.now)) (record { old = K.held sink.old; new = K.held sink.new; before = K.faults sink.old; now = K.faults sink.new }) result }
+{
+    let net = broadcast_posts(alloc, document)?;
+    write_lines(sink, &net)?;
+    Ok(())
+}
+
+// The lines of all tiles.
+fn write_lines<K: Sink>(sink: &mut K, net: &OrderedNet) -> Result<(), WriteFault>
+    ensures ok { OnOk result (Appends (K.held sink.old) (K.held sink.new) (deliveries_text (delivered_lists net.now.network))) }
+    ensures err { OnErr result (AppendsPart (K.held sink.old) (K.held sink.new) (deliveries_text (delivered_lists net.now.network))) }
+    ensures fault { OnErr result (Rose (K.faults sink.old) (K.faults sink.new)) }
+{
+    for t in 0..net.tiles() {
+        write_line(sink, t, delivered_by(net, t))?;
+    }
+    Ok(())
+}
+
+// The requests that a tile has delivered: the first ones of the order.
+fn delivered_by(net: &OrderedNet, t: u8) -> &[Request]
+    requires { t < tile_count net.now.chip }
+    ensures { result.now ≡ take (slice_index (delivered_counts net.now.network) t) net.now.network.ordered }
+{
+    // What this tells shows that the order has as many.
+    net.tiles();
+    let count = net.delivered(t) as usize;
+    &net.order()[..count]
+}
+
+// The line of a tile that has delivered these requests.
+fn write_line<K: Sink>(sink: &mut K, tile: u8, delivered: &[Request]) -> Result<(), WriteFault>
+    ensures ok { OnOk result (Appends (K.held sink.old) (K.held sink.new) (tile_line tile (sources delivered.now))) }
+    ensures err { OnErr result (AppendsPart (K.held sink.old) (K.held sink.new) (tile_line tile (sources delivered.now))) }
+    ensures fault { OnErr result (Rose (K.faults sink.old) (K.faults sink.new)) }
+    ensures count { K.faults sink.old ≤ K.faults sink.new }
+{
+    write_label(sink, tile)?;
+    for request in delivered {
+        write_number(sink, request.source, true)?;
+    }
+    write_piece(sink, b"\n")
+}
+
+// What stands before a tile's list, as one piece.
+fn write_label<K: Sink>(sink: &mut K, tile: u8) -> Result<(), WriteFault>
+    ensures ok { OnOk result (Appends (K.held sink.old) (K.held sink.new) (label_text tile)) }
+    ensures err { OnErr result (AppendsPart (K.held sink.old) (K.held sink.new) (label_text tile)) }
+    ensures fault { OnErr result (Rose (K.faults sink.old) (K.faults sink.new)) }
+    ensures count { K.faults sink.old ≤ K.faults sink.new }
+{
+    let mut label: ArrayString<LABEL_SIZE> = ArrayString::new();
+    label.push_str("tile ");
+    label.push_str(Buffer::new().format(tile));
+    label.push_str(":");
+    write_piece(sink, label.as_str().as_bytes())
+}

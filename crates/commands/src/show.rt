@@ -1,0 +1,17 @@
+ghost use Rattle.doc_text.specs.Doc.{doc_of};
+ghost use Rattle.commands.specs.Texts.{IsShown};
+ghost use Rattle.commands.specs.Outcome.{WroteSome};
+
+use crate::Stop;
+use canonical_form::canonical_is_read_back;
+use mesh_doc::{Document, write_document};
+use outside_io::Sink;
+
+/// Writes the canonical text, which is read back as the description that it shows.
+pub(crate) fn write_shown<K: Sink>(document: &Document, sink: &mut K) -> Result<(), Stop>
+    ensures { WroteSome (IsShown (doc_of document.now)) (record { old = K.held sink.old; new = K.held sink.new; before = K.faults sink.old; now = K.faults sink.new }) result }
+{
+    canonical_is_read_back(document);
+    write_document(document, sink)?;
+    Ok(())
+}

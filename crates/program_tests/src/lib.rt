@@ -1,0 +1,15 @@
+//! Tests of the public calls that read descriptions, run commands and write texts.
+#![tactic(auto)]
+
+#[cfg(test)]
+mod canonical_texts;
+#[cfg(test)]
+mod descriptions;
+#[cfg(test)]
+mod fixtures;
+#[cfg(test)]
+mod outputs;
+#[cfg(test)]
+mod refusals;
+#[cfg(test)]
+mod streams;

@@ -1,5 +1,0 @@
-use Rattle.scorpio_cli.proofs.Forms.{one_word}
-use Rattle.scorpio_cli.proofs.command.Command.of.Goals as goal
-
-pub returns-in-len1-clause-some : goal.returns-in-len1-clause-some
-returns-in-len1-clause-some c = rw c.named.ensures (one_word c.args.words.now _ c.in-len1.len_at_least c.in-len1.len_below)
