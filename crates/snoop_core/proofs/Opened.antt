@@ -1,5 +1,5 @@
 -- What holds of a node at the start.
-use Rattle.std.proofs.Common.{◌≡◌, ℕ, zero, suc, ◌<◌, false, refl, sym, ◌∙◌, ap, subst, arith, inl, Option, Some, None, List, [], length, replicate, get_or}
+use Rattle.std.proofs.Common.{◌≡◌, ℕ, zero, suc, ◌<◌, false, refl, sym, ◌∙◌, ap, subst, arith, Option, Some, None, List, [], length, replicate, get_or}
 use Rattle.std.specs.Prelude.{◌==◌, ◌↔◌, IsSome, is_some, slice_get, slice_index_or}
 use Rattle.std.proofs.lemmas.Bool.{eqb-true, eq-eqb, ne_eqb, both_ways}
 use Rattle.std.proofs.lemmas.List.{length-replicate}

@@ -1,5 +1,5 @@
 -- Every step of a node keeps it sound.
-use Rattle.std.proofs.Common.{◌≡◌, ◌*◌, ◌<◌, ℕ, subst, sym, Some}
+use Rattle.std.proofs.Common.{◌≡◌, ◌*◌, ◌<◌, subst, sym, Some}
 use Rattle.mesh_gen.specs.declared.request.Request.{Request}
 use Rattle.mesh_gen.specs.declared.msg.Msg.{Msg}
 use Rattle.mesh_gen.specs.declared.msg_kind.MsgKind.{MsgKind}

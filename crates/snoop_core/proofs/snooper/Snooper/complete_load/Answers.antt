@@ -1,4 +1,4 @@
-use Rattle.std.proofs.Common.{◌≡◌, ◌∙◌, ap, subst, refl}
+use Rattle.std.proofs.Common.{◌≡◌, subst, refl}
 use Rattle.chip_model.specs.Chip.{chip_of_mesh}
 use Rattle.chip_model.specs.Snoop.{completed_load}
 use Rattle.snoop_core.specs.ChipSides.{ChipSide, left_by}

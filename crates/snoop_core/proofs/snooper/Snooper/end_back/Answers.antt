@@ -7,7 +7,7 @@ use Rattle.chip_model.specs.Misses.{WriteBack}
 use Rattle.chip_model.specs.Snoop.{Outcome}
 use Rattle.miss_table.specs.declared.look.BackLook.{BackLook}
 use Rattle.snoop_core.specs.ChipSides.{ChipSide}
-use Rattle.snoop_core.proofs.Seen.{sees_back, no_back_seen, back_was_sent}
+use Rattle.snoop_core.proofs.Seen.{sees_back, no_back_seen}
 use Rattle.snoop_core.proofs.Options.{none_some}
 use Rattle.snoop_core.proofs.OwnSteps.{put_is, same_back, put_message}
 use Rattle.snoop_core.proofs.snooper.Snooper.end_back.Goals as goal
