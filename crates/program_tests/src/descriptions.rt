@@ -266,9 +266,9 @@ const MESHES: [(&str, &str); 7] = [
         "cols = 1\nrows = 9\nwindow = 8",
         "Range { key: Rows, at: 0 }",
     ),
-    ("cols = 6\nrows = 6\nwindow = 10", "Ok"),
+    ("cols = 8\nrows = 8\nwindow = 14", "Ok"),
     (
-        "cols = 6\nrows = 6\nwindow = 9",
+        "cols = 8\nrows = 8\nwindow = 13",
         "Range { key: Window, at: 0 }",
     ),
     (
