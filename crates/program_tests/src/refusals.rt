@@ -93,9 +93,7 @@ const LIMIT: usize = 1_048_576;
 // How `show` ends on a description that line feeds make so long.
 fn shown_of_length(alloc: Global, length: usize) -> Result<Result<(), Stop>, AllocError> {
     let mut bytes = Vec::from_slice(alloc, b"mesh = { cols = 1, rows = 1, window = 1 }")?;
-    while bytes.len() < length {
-        bytes.push(b'\n')?;
-    }
+    bytes.resize(length, b'\n')?;
     let mut source = input(alloc, &bytes, &[])?;
     let mut sink = output(alloc, &[])?;
     Ok(Command::Show.run(alloc, &mut source, &mut sink))
