@@ -41,5 +41,5 @@ on_data-requires g c =
     let n2 : Node = (request_delivered (request_for_line 0 0 1 GetM) n1).0 in
     let e2 : c.on_request-2.new.self ≡ n2 = after_request c.request_of-2.result (request_for_line 0 0 1 GetM) c.on_request.new.self n1 c.on_request-2.new.self c.request_of-2.ensures e1 c.on_request-2.ensures.node in
     let msg : Msg = (data_to 0 0 (5 ∷ 2 ∷ 9 ∷ 4 ∷ [])) in
-    let may = may_come c.words_for.result msg c.on_request-2.new.self n2 c.words_for.ensures e2 (record { line = refl; awaited = refl; home = refl; room = refl }) in
+    let may = may_come c.words_for-2.result msg c.on_request-2.new.self n2 c.words_for-2.ensures e2 (record { line = refl; awaited = refl; home = refl; room = refl }) in
     record { line = may.line; awaited = may.awaited; home = may.home; room = may.room }
