@@ -109,9 +109,8 @@ impl Extent {
         ensures finds { Finds (range_faults (mesh_seen mesh.entry) (AtCols ∷ AtRows ∷ [])) result }
         ensures said { IfOk result (IsExtentOf (mesh_seen mesh.entry)) }
     {
-        let most = u32::from(MOST_SIDE);
-        let cols = number(mesh, Key::Cols, 1, most)?;
-        let rows = number(mesh, Key::Rows, 1, most)?;
+        let cols = number(mesh, Key::Cols, 1, MOST_SIDE as u32)?;
+        let rows = number(mesh, Key::Rows, 1, MOST_SIDE as u32)?;
         Ok(Extent {
             cols: cols as u8,
             rows: rows as u8,

@@ -9,3 +9,4 @@ pub mod WhereCopies
 pub mod OwedWays
 pub mod RoomForNames
 pub mod Arrived
+pub mod CopySteps
