@@ -131,7 +131,10 @@ impl Key {
         match self {
             Key::Mesh | Key::Core | Key::Code => Limit::Free,
             Key::Posts => Limit::Windows,
-            Key::Cols | Key::Rows => Limit::Number { least: 1, most: u16::from(MOST_SIDE) },
+            Key::Cols | Key::Rows => Limit::Number {
+                least: 1,
+                most: u16::from(MOST_SIDE),
+            },
             Key::Window => Limit::Ticks,
             Key::Vcs => Limit::Number { least: 1, most: 8 },
             Key::DataVcs | Key::Ways => Limit::Number { least: 1, most: 4 },

@@ -18,7 +18,7 @@ const FIRST_FAULTS: [(&str, &str); 10] = [
         "WrongKind { key: Cols, at: 0 }",
     ),
     (
-        "[mesh]\ncols = 7\nrows = 1\nwindow = 6",
+        "[mesh]\ncols = 9\nrows = 1\nwindow = 8",
         "Range { key: Cols, at: 0 }",
     ),
     (
@@ -282,12 +282,12 @@ const MESHES: [(&str, &str); 11] = [
         "Range { key: Cols, at: 0 }",
     ),
     (
-        "cols = 1\nrows = 7\nwindow = 6",
+        "cols = 1\nrows = 9\nwindow = 8",
         "Range { key: Rows, at: 0 }",
     ),
-    ("cols = 6\nrows = 6\nwindow = 10", "Ok"),
+    ("cols = 8\nrows = 8\nwindow = 14", "Ok"),
     (
-        "cols = 6\nrows = 6\nwindow = 9",
+        "cols = 8\nrows = 8\nwindow = 13",
         "Range { key: Window, at: 0 }",
     ),
     (

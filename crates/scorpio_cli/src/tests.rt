@@ -220,7 +220,7 @@ fn faulty_descriptions_are_refused_by_name(rt: HostRuntime) -> Result<(), Fail> 
             "wrong kind mesh.cols",
         ),
         (
-            "[mesh]\ncols = 7\nrows = 1\nwindow = 6\n",
+            "[mesh]\ncols = 9\nrows = 1\nwindow = 8\n",
             "out of range mesh.cols",
         ),
         (
