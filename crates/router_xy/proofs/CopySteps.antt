@@ -39,19 +39,19 @@ stood_or_put net r p i packet n q j copy stands =
     let written = set bank p (set slots i packet) in
     ⊎_elim
     (λ here. ⊎_elim
-        (λ there. ⊎_elim
-            (λ last. inl (sym last.0 ∙ sym (ap (λ (row : List (Option NetCopy)). get_or row j None) there.0) ∙ sym (ap (λ (b : Channels NetCopy). get_or (get_or b q []) j None) here.0) ∙ stands))
-            (λ same. inr (
-              ap (λ (k : ℕ). get_or (get_or (get_or net k []) q []) j None) here.1
-              ∙ ap (λ (k : ℕ). get_or (get_or bank k []) j None) there.1
-              ∙ sym same ∙ sym (ap (λ (row : List (Option NetCopy)). get_or row j None) there.0) ∙ sym (ap (λ (b : Channels NetCopy). get_or (get_or b q []) j None) here.0) ∙ stands
-            ))
-            (set_cases slots i packet j None))
-        (λ same. inr (
-          ap (λ (k : ℕ). get_or (get_or (get_or net k []) q []) j None) here.1
-          ∙ sym (ap (λ (row : List (Option NetCopy)). get_or row j None) same) ∙ sym (ap (λ (b : Channels NetCopy). get_or (get_or b q []) j None) here.0) ∙ stands
-        ))
-        (set_cases bank p (set slots i packet) q []))
+    (λ there. ⊎_elim
+    (λ last. inl (sym last.0 ∙ sym (ap (λ (row : List (Option NetCopy)). get_or row j None) there.0) ∙ sym (ap (λ (b : Channels NetCopy). get_or (get_or b q []) j None) here.0) ∙ stands))
+    (λ same. inr (
+    ap (λ (k : ℕ). get_or (get_or (get_or net k []) q []) j None) here.1
+    ∙ ap (λ (k : ℕ). get_or (get_or bank k []) j None) there.1
+    ∙ sym same ∙ sym (ap (λ (row : List (Option NetCopy)). get_or row j None) there.0) ∙ sym (ap (λ (b : Channels NetCopy). get_or (get_or b q []) j None) here.0) ∙ stands
+    ))
+    (set_cases slots i packet j None))
+    (λ same. inr (
+    ap (λ (k : ℕ). get_or (get_or (get_or net k []) q []) j None) here.1
+    ∙ sym (ap (λ (row : List (Option NetCopy)). get_or row j None) same) ∙ sym (ap (λ (b : Channels NetCopy). get_or (get_or b q []) j None) here.0) ∙ stands
+    ))
+    (set_cases bank p (set slots i packet) q []))
     (λ same. inr (sym (ap (λ (b : Channels NetCopy). get_or (get_or b q []) j None) same) ∙ stands))
     (set_cases net r written n [])
 
