@@ -1,3 +1,4 @@
 pub mod Sweeping
 pub mod Broadcasting
 pub mod Delivering
+pub mod Settling

@@ -248,33 +248,42 @@ passes_more chip (suc count) net =
 
 pub no_pass : (a : NetworkState) → Passes a a
 unfolding passes
-no_pass a = record { count = 0; passed = refl; sizes = record { chip_is = refl; room_is = refl }; phase = refl; ordered = refl }
+no_pass a = record { count = 0; passed = refl; moved = omega arith; sizes = record { chip_is = refl; room_is = refl }; closed = refl; phase = refl; ordered = refl }
 
-pub one_more : (a b c : NetworkState) (moved : Bool) → Passes a b → Sweeps (request_slots b.chip) b c moved → Passes a c
-one_more a b c moved before swept = record {
+pub one_more : (a b c : NetworkState) (moved : Bool) → Passes a b → Sweeps (request_slots b.chip) b c moved → moved ≡ true → Passes a c
+one_more a b c moved before swept some = record {
   count = before.count + 1;
   passed =
       passes_more a.chip before.count a.network
       ∙ rw (before.passed) (ap (λ (chip : Chip). network_swept chip b.network (request_slots chip)) (sym before.sizes.chip_is))
       ∙ sym swept.swept;
+  moved = let so_far = before.moved in let further = swept.moves.further some in omega arith;
   sizes = same_sizes_join a b c before.sizes swept.moves.sizes;
+  closed = swept.moves.closed ∙ before.closed;
   phase = swept.moves.phase ∙ before.phase;
   ordered = swept.moves.ordered ∙ before.ordered;
 }
 
 -- a pass in which nothing moved
-pub settles : (a b c : NetworkState) (moved : Bool) → Passes a b → Sweeps (request_slots b.chip) b c moved → moved ≡ false → Settles a c
-settles a b c moved before swept still =
+pub settles : (a b c : NetworkState) (moved : Bool) → Passes a b → Sweeps (request_slots b.chip) b c moved → moved ≡ false → moves_done c.network ≤ most_moves c.chip c.network → Settles a c
+settles a b c moved before swept still most =
     let same = swept.moves.still still in
     let chip = swept.moves.sizes.chip_is in
+    let all_moved : moves_done a.network + before.count ≤ moves_done c.network = rw same before.moved in
+    let as_many : most_moves c.chip c.network ≡ most_moves a.chip a.network =
+    rw (chip, before.sizes.chip_is, swept.moves.closed, before.closed, swept.moves.ordered, before.ordered) refl
+    in
     record {
       passes = record {
         count = before.count;
         passed = before.passed ∙ sym same;
+        moved = all_moved;
         sizes = same_sizes_join a b c before.sizes swept.moves.sizes;
+        closed = swept.moves.closed ∙ before.closed;
         phase = swept.moves.phase ∙ before.phase;
         ordered = swept.moves.ordered ∙ before.ordered;
       };
+      few = omega (arith, all_moved, as_many, most);
       settled = rw (chip, same) (sym swept.swept ∙ same);
     }
 

@@ -1,3 +1,4 @@
 pub mod Sweeps
 pub mod Broadcasts
 pub mod Delivered
+pub mod Settled

@@ -1,5 +1,5 @@
 -- What some events make of an ordered network, each where it is possible.
-use Rattle.std.specs.Prelude.{◌≡◌, ℕ, ◌<◌, ◌≤◌, Bool, true, false, List, [], ◌∷◌, ◌++◌}
+use Rattle.std.specs.Prelude.{◌≡◌, ℕ, ◌+◌, ◌<◌, ◌≤◌, Bool, true, false, List, [], ◌∷◌, ◌++◌}
 use Rattle.std.specs.List.{flat_map}
 use Rattle.order_tracker.specs.Order.{upwards}
 use Rattle.report_text.specs.declared.event.Event.{Event}
@@ -8,7 +8,7 @@ use Rattle.chip_model.specs.Chip.{Chip, tile_count}
 use Rattle.chip_model.specs.Delivery.{network_swept, passes, IsSettled}
 use Rattle.chip_model.specs.Schedules.{router_hops}
 use Rattle.net_iface.specs.OrderedNet.{NetworkState, SameSizes}
-use Rattle.net_iface.specs.Moves.{moves_done}
+use Rattle.net_iface.specs.Moves.{moves_done, most_moves}
 
 -- requests move on, and no tick passes: nothing changes where nothing `moved`, and else the network comes further
 pub record MovesOn (old new : NetworkState) (moved : Bool) : Type 0 where
@@ -28,15 +28,18 @@ pub record Sweeps (events : List Event) (old new : NetworkState) (moved : Bool) 
 abbrev pub tile_moves : Chip → ℕ → List Event
 tile_moves chip t = Take t ∷ Eject t ∷ router_hops chip t
 
--- so many passes went by
+-- so many passes went by, and in each of them something moved
 pub record Passes (old new : NetworkState) : Type 0 where
   pub count : ℕ
   pub passed : passes old.chip count old.network ≡ new.network
+  pub moved : moves_done old.network + count ≤ moves_done new.network
   pub sizes : SameSizes old new
+  pub closed : new.network.windows.closed ≡ old.network.windows.closed
   pub phase : new.network.windows.phase ≡ old.network.windows.phase
   pub ordered : new.network.ordered ≡ old.network.ordered
 
--- passes went by until one did nothing
+-- passes went by until one did nothing, and no more of them than there can be moves
 pub record Settles (old new : NetworkState) : Type 0 where
   pub passes : Passes old new
+  pub few : passes.count ≤ most_moves old.chip old.network
   pub settled : IsSettled new.chip new.network

@@ -3,8 +3,10 @@ ghost use Rattle.std.specs.Prelude.{◌≡◌, ◌≤◌, IfOk};
 ghost use Rattle.mesh_gen.specs.Limits.{AreTiles, most_tiles};
 ghost use Rattle.mesh_gen.specs.TileSet.{set_of};
 ghost use Rattle.doc_text.specs.Doc.{doc_of};
-ghost use Rattle.chip_model.specs.Chip.{chip_of_mesh};
+ghost use Rattle.chip_model.specs.Chip.{chip_of, chip_of_mesh};
 ghost use Rattle.chip_model.specs.Delivery.{DeliversPosts};
+ghost use Rattle.net_iface.specs.OneOrder.{IsOneOrder};
+ghost use Rattle.broadcast.specs.Settled.{broadcast_network};
 
 use crate::passes::settle;
 use crate::window::pass_window;
@@ -28,6 +30,8 @@ fn posts_of(tiles: &[u8], count: u8) -> u64
 pub fn broadcast_posts(alloc: Global, document: &Document) -> Result<OrderedNet, NoMemory>
     ensures chip { IfOk result (λ net. net.chip ≡ chip_of_mesh document.now.mesh) }
     ensures delivers { IfOk result (λ net. DeliversPosts (doc_of document.now) net.network) }
+    ensures network { IfOk result (λ net. net.network ≡ broadcast_network (doc_of document.now)) }
+    ensures one_order { IfOk result (λ net. IsOneOrder (chip_of (doc_of document.now)) net.network) }
 {
     let mesh = &document.mesh;
     let windows = document.windows();
@@ -36,8 +40,10 @@ pub fn broadcast_posts(alloc: Global, document: &Document) -> Result<OrderedNet,
     let mut net = OrderedNet::open(alloc, mesh, room)?;
     for window in windows {
         let set = posts_of(window.as_slice(), tiles);
-        pass_window(&mut net, set, mesh.window);
-        settle(&mut net, mesh.vcs);
+        pass_window(&mut net, set);
+        settle(&mut net);
     }
+    // What this tells is true of every ordered network.
+    net.order();
     Ok(net)
 }

@@ -2,7 +2,9 @@
 #![tactic(auto)]
 
 mod delivery;
+mod laws;
 mod passes;
 mod window;
 
 pub use delivery::broadcast_posts;
+pub use laws::broadcast_laws;

@@ -40,10 +40,10 @@ fn hop_from_port(net: &mut OrderedNet, router: u8, port: Port, slots: u8) -> boo
 }
 
 // The copies in the channels of a router leave where they can.
-fn hop_from_router(net: &mut OrderedNet, router: u8, vcs: u8) -> bool
-    requires vcs { (vcs ≡ net.old.chip.vcs) × (vcs < 9) }
+fn hop_from_router(net: &mut OrderedNet, router: u8) -> bool
     ensures { Sweeps (router_hops net.old.chip router) net.old net.new result }
 {
+    let vcs = net.vcs();
     let own = hop_from_port(net, router, Port::L, vcs);
     let east = hop_from_port(net, router, Port::E, vcs + 1);
     let west = hop_from_port(net, router, Port::W, vcs + 1);
@@ -67,35 +67,33 @@ fn eject(net: &mut OrderedNet, t: u8) -> bool
 }
 
 // A tile and its router move requests on where they can.
-fn move_tile(net: &mut OrderedNet, t: u8, vcs: u8) -> bool
-    requires vcs { (vcs ≡ net.old.chip.vcs) × (vcs < 9) }
+fn move_tile(net: &mut OrderedNet, t: u8) -> bool
     ensures { Sweeps (tile_moves net.old.chip t) net.old net.new result }
 {
     let taken = take(net, t);
     let delivered = eject(net, t);
-    let hopped = hop_from_router(net, t, vcs);
+    let hopped = hop_from_router(net, t);
     taken || delivered || hopped
 }
 
 // One pass through all slots that move requests on: whether anything moved.
-fn pass(net: &mut OrderedNet, vcs: u8) -> bool
-    requires vcs { (vcs ≡ net.old.chip.vcs) × (vcs < 9) }
+fn pass(net: &mut OrderedNet) -> bool
     ensures { Sweeps (request_slots net.old.chip) net.old net.new result }
 {
     let mut moved = false;
     for t in 0..net.tiles() {
-        moved |= move_tile(net, t, vcs);
+        moved |= move_tile(net, t);
     }
     moved
 }
 
 // Passes until nothing moves.
-pub(crate) fn settle(net: &mut OrderedNet, vcs: u8)
-    requires vcs { (vcs ≡ net.old.chip.vcs) × (vcs < 9) }
+pub(crate) fn settle(net: &mut OrderedNet)
     ensures { Settles net.old net.new }
 {
-    while pass(net, vcs) {
-        // There are only so many moves.
+    while pass(net) {
+        // What this tells bounds the moves, and so the passes.
         let _tiles = net.tiles();
     }
+    net.tiles();
 }

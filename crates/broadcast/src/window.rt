@@ -33,25 +33,23 @@ fn post(net: &mut OrderedNet, set: u64)
 }
 
 // The ticks of a window pass, where a tile posted.
-fn tick(net: &mut OrderedNet, ticks: u8)
-    requires ticks { ticks ≡ net.old.chip.window }
+fn tick(net: &mut OrderedNet)
     requires closed { net.old.network.windows.phase ≡ 0 }
     requires room { length net.old.network.ordered + tile_count net.old.chip ≤ net.old.room }
     ensures { TicksFor net.old.chip.window net.old net.new }
 {
-    for _ in 0..ticks {
+    for _ in 0..net.window() {
         let _ticked = net.tick();
     }
 }
 
 // A window of the tiles of a set.
-pub(crate) fn pass_window(net: &mut OrderedNet, set: u64, ticks: u8)
-    requires ticks { ticks ≡ net.old.chip.window }
+pub(crate) fn pass_window(net: &mut OrderedNet, set: u64)
     requires closed { net.old.network.windows.phase ≡ 0 }
     requires room { length net.old.network.ordered + tile_count net.old.chip ≤ net.old.room }
     ensures { WindowPasses (window_events net.old.chip (expansion (tile_count net.old.chip) 0 set)) net.old net.new }
 {
     inject(net, set);
     post(net, set);
-    tick(net, ticks);
+    tick(net);
 }

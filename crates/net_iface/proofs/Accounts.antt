@@ -32,7 +32,7 @@ on_the_way : (net : Network NetCopy) (router port slot : ℕ) (copy : NetCopy) �
 on_the_way net router port slot copy stands = record { router = router; port = port; slot = slot; there = stands_there net router port slot copy stands }
 
 -- what is on the way was made
-made_if_on_the_way : (chip : Chip) (copies : Network NetCopy) (w : Windows) (ordered : List Request) (unordered : List (Buffer Request)) (delivered : List ℕ) (q : Request)
+pub made_if_on_the_way : (chip : Chip) (copies : Network NetCopy) (w : Windows) (ordered : List Request) (unordered : List (Buffer Request)) (delivered : List ℕ) (q : Request)
     → IsAccounted chip copies w ordered unordered delivered → IsOnTheWay copies q → IsOfMade (tile_count chip) ordered unordered q
 made_if_on_the_way chip copies w ordered unordered delivered q accounted way =
     subst (λ (r : Request). IsOfMade (tile_count chip) ordered unordered r) way.there.is (accounted.of_made way.router way.port way.slot way.there.copy way.there.stands)

@@ -23,12 +23,9 @@ use Rattle.net_iface.specs.Parts.{Parts, made_by, interface_of, interfaces_of, n
 use Rattle.net_iface.proofs.Named.{slice_get_grown, slice_get-append_right, length-requests_of, requests_of-append, count_by_tile-append}
 use Rattle.net_iface.proofs.Orders.{order-push}
 use Rattle.net_iface.proofs.Places.{item_at}
-use Rattle.net_iface.proofs.Interfaces.{same_tiles}
+use Rattle.net_iface.proofs.Interfaces.{as_interface, same_tiles}
 use Rattle.net_iface.proofs.Expected.{interface_at}
 use Rattle.net_iface.proofs.Turns.{ordered_in, requests_of-round, turn_taken, turn_passed, sources-expansion, same_expansion}
-
-abbrev as_interface : List Request → ℕ → ℕ → Interface
-as_interface made posted delivered = record { made = made; posted = posted; delivered = delivered }
 
 head_and_rest : (xs : List Request) (q : Request) → slice_get xs 0 ≡ Some q → q ∷ drop 1 xs ≡ xs
 head_and_rest [] q is = cc

@@ -7,16 +7,13 @@ use Rattle.std.proofs.lemmas.List.{get_or-set_same, get_or-set_other, length-map
 use Rattle.std.proofs.lemmas.List.Sums.{count_by-le-length}
 use Rattle.std.proofs.lemmas.Option.{slice_get_within}
 use Rattle.mesh_gen.specs.declared.request.Request.{Request}
-use Rattle.vc_bank.specs.Places.{Network, at}
 use Rattle.order_tracker.specs.Tracker.{TrackerState, next_of}
-use Rattle.chip_model.specs.declared.net_copy.NetCopy.{NetCopy}
 use Rattle.chip_model.specs.Chip.{tile_count}
-use Rattle.chip_model.specs.Copies.{Name, name_of, local_place, served}
+use Rattle.chip_model.specs.Copies.{Name, name_of}
 use Rattle.chip_model.specs.OrderedNetwork.{Interface, sources, with_interface, expected_at}
 use Rattle.chip_model.specs.Bookkeeping.{count_by_tile}
-use Rattle.chip_model.specs.CopiesOwed.{OwesLess, NoneComes, ReservesNothing}
+use Rattle.chip_model.specs.CopiesOwed.{IsOnTheWay, OwesLess, NoneComes, ReservesNothing}
 use Rattle.router_xy.specs.RequestNetwork.{RequestNetwork}
-use Rattle.router_xy.proofs.LocalPlaces.{local_stands}
 use Rattle.net_iface.specs.OrderedNet.{requests_of}
 use Rattle.net_iface.specs.Unordered.{unordered_of}
 use Rattle.net_iface.specs.Parts.{Parts, made_by, interface_of, interfaces_of, network_of, IsFollowing, AreKept}
@@ -25,34 +22,13 @@ use Rattle.net_iface.proofs.Named.{slice_get_grown, request_at, number_at}
 use Rattle.net_iface.proofs.Interfaces.{other_at}
 use Rattle.net_iface.proofs.Expected.{expects_tile, next_expected}
 use Rattle.net_iface.proofs.Entries.{expected_is_there}
-use Rattle.net_iface.proofs.Accounts.{IsAccounted-eject}
-use Rattle.net_iface.proofs.Places.{item_at}
-use Rattle.net_iface.proofs.Steps.{served-none, served_by}
-
--- the copy that is served
-pub record IsServed (net : Network NetCopy) (r : ℕ) (q : Request) : Type 0 where
-  pub port : ℕ
-  pub slot : ℕ
-  pub copy : NetCopy
-  pub stands : at net r port slot ≡ Some copy
-  pub is : copy.request ≡ q
-
-served_from : (net new : Network NetCopy) (r : ℕ) (name : Name) (q : Request) (place : Option (ℕ × ℕ)) → local_place net r name ≡ place → served net r name ≡ Some (q, new) → IsServed net r q
-served_from net new r name q None found is = let none = served-none net r name found in cc
-served_from net new r name q (Some place) found is =
-    let there = local_stands net r name place.0 place.1 found in
-    record { port = place.0; slot = place.1; copy = there.0; stands = there.1; is = served_by net new r name q place.0 place.1 there.0 found there.1 is }
-
-pub served_copy : (net new : Network NetCopy) (r : ℕ) (name : Name) (q : Request) → served net r name ≡ Some (q, new) → IsServed net r q
-served_copy net new r name q is = served_from net new r name q (local_place net r name) refl is
-
-same_some : (a b : Request) → ◌≡◌ {A = Option Request} (Some a) (Some b) → a ≡ b
-same_some a b same = cc
+use Rattle.net_iface.proofs.Accounts.{made_if_on_the_way, IsAccounted-eject}
+use Rattle.net_iface.proofs.Places.{same_some, item_at}
 
 -- the request that is served is that of the order
-pub is_next : (p : Parts) (new : Network NetCopy) (t : ℕ) (name : Name) (q : Request) → AreKept p → expected_at p.chip (network_of p) t ≡ Some name → served p.routers.copies t name ≡ Some (q, new) → name_of q ≡ name
+pub is_next : (p : Parts) (t : ℕ) (name : Name) (q : Request) → AreKept p → expected_at p.chip (network_of p) t ≡ Some name → IsOnTheWay p.routers.copies q → name_of q ≡ name
     → slice_get p.ordered (slice_index p.delivered t) ≡ Some q
-is_next p new t name q kept expects serves named =
+is_next p t name q kept expects stood named =
     let inside = expects_tile p t name expects in
     let entry = expected_is_there p t name kept inside expects in
     let d = slice_index p.delivered t in
@@ -62,9 +38,7 @@ is_next p new t name q kept expects serves named =
     ap (slice_get (made_by p.ordered p.unordered entry.request.source)) number
     ∙ slice_get_grown (requests_of entry.request.source p.ordered) (unordered_of p.unordered entry.request.source) (count_by_tile entry.request.source (take d p.ordered)) entry.request (request_at entry.request.source p.ordered d entry.request entry.there refl)
     in
-    let copy = served_copy p.routers.copies new t name q serves in
-    let made = (kept.accounted.of_made t copy.port copy.slot copy.copy copy.stands).made in
-    let made_q : slice_get (made_by p.ordered p.unordered q.source) q.number ≡ Some q = subst (λ (r : Request). slice_get (made_by p.ordered p.unordered r.source) r.number ≡ Some r) copy.is made in
+    let made_q = (made_if_on_the_way p.chip p.routers.copies p.windows.windows p.ordered p.unordered p.delivered q kept.accounted stood).made in
     let names : name_of entry.request ≡ name_of q = entry.named ∙ sym named in
     let same : entry.request ≡ q =
     same_some entry.request q (sym here ∙ ap (λ (n : Name). slice_get (made_by p.ordered p.unordered n.0) n.1) names ∙ made_q)

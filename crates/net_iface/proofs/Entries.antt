@@ -68,7 +68,7 @@ pub record IsThere (tiles : ℕ) (ordered : List Request) (place : ℕ) (name : 
   pub named : name_of request ≡ name
   pub source : request.source < tiles
 
-entry_there : (n count place : ℕ) (ordered : List Request) (closed : List ℕ) (name : Name) (made : ℕ → List Request) → 0 < n → sources ordered ≡ order n closed
+pub entry_there : (n count place : ℕ) (ordered : List Request) (closed : List ℕ) (name : Name) (made : ℕ → List Request) → 0 < n → sources ordered ≡ order n closed
     → ((t : ℕ) → t < n → AreMadeBy t (requests_of t ordered ++ made t)) → entry_at (order n (take count closed)) place ≡ Some name → IsThere n ordered place name
 entry_there n count place ordered closed name made some in_order all is =
     let entries = order n (take count closed) in

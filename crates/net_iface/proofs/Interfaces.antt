@@ -1,11 +1,17 @@
 -- The interfaces of all tiles, tile by tile.
-use Rattle.std.proofs.Common.{◌≡◌, ◌≢◌, ℕ, ◌<◌, ◌≤◌, set, sym, ◌∙◌, ap, inl, inr, arith, map, Some, None}
+use Rattle.std.proofs.Common.{◌≡◌, ◌≢◌, ℕ, ◌<◌, ◌≤◌, set, sym, ◌∙◌, ap, inl, inr, arith, map, List, Some, None}
 use Rattle.std.specs.Prelude.{slice_get}
 use Rattle.std.specs.List.{range_with_len}
 use Rattle.std.proofs.lemmas.Bool.{cases_eq}
 use Rattle.std.proofs.lemmas.List.{length-set, get_or-set_same, get_or-set_other}
 use Rattle.std.proofs.lemmas.List.FromFn.{length-map-range_with_len, get_or-map-range_with_len, fill_by_all}
 use Rattle.std.proofs.lemmas.Option.{slice_get-get_or, slice_get_within, slice_get_past}
+use Rattle.mesh_gen.specs.declared.request.Request.{Request}
+use Rattle.chip_model.specs.OrderedNetwork.{Interface}
+
+-- an interface by its fields
+abbrev pub as_interface : List Request → ℕ → ℕ → Interface
+as_interface made posted delivered = record { made = made; posted = posted; delivered = delivered }
 
 module _ {X : Type 0} (f : ℕ → X) (n : ℕ) where
   pub tile_at : (t : ℕ) → t < n → slice_get (map f (range_with_len 0 n)) t ≡ Some (f t)

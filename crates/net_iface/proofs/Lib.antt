@@ -12,6 +12,10 @@ pub mod Interfaces
 pub mod Kept
 pub mod Laws
 pub mod Named
+pub mod OneOrders
+pub mod Accords
+pub mod Ticks
+pub mod Histories
 pub mod Opening
 pub mod Orders
 pub mod Places

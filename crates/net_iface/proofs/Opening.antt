@@ -12,6 +12,8 @@ use Rattle.mesh_gen.specs.declared.request.Request.{Request}
 use Rattle.mesh_gen.specs.Limits.{most_tiles}
 use Rattle.mesh_gen.specs.Ports.{count_if}
 use Rattle.mesh_gen.specs.TileSet.{has_tile}
+use Rattle.vc_bank.specs.Places.{at}
+use Rattle.chip_model.specs.declared.net_copy.NetCopy.{NetCopy}
 use Rattle.mesh_gen.proofs.TileSets.{has_tile-none}
 use Rattle.order_tracker.specs.Tracker.{TrackerState, IsWindow}
 use Rattle.chip_model.specs.Chip.{Chip, tile_count}
@@ -20,15 +22,12 @@ use Rattle.chip_model.specs.Copies.{no_copies}
 use Rattle.chip_model.specs.OrderedNetwork.{Interface, opening_network}
 use Rattle.chip_model.specs.Bookkeeping.{count_by_tile}
 use Rattle.chip_model.specs.CopiesOwed.{channel_count, times_named}
-use Rattle.router_xy.proofs.Sound.{nothing_stands}
-use Rattle.router_xy.proofs.OwedCounts.{owing-absent}
+use Rattle.net_iface.proofs.Laws.{NothingStands, NothingIsOwed}
+use Rattle.net_iface.proofs.Interfaces.{as_interface}
 use Rattle.window_core.specs.Windows.{opening}
 use Rattle.net_iface.specs.Unordered.{list_of}
 use Rattle.net_iface.specs.Parts.{Parts, made_by, interface_of, network_of, IsAccounted, IsFollowing, AreKept}
 use Rattle.net_iface.specs.Trackers.{IsUnused, AreUnused}
-
-abbrev as_interface : List Request → ℕ → ℕ → Interface
-as_interface made posted delivered = record { made = made; posted = posted; delivered = delivered }
 
 -- the parts of a chip's network that has done nothing
 abbrev pub opening_parts : Chip → ℕ → List TrackerState → Parts
@@ -44,7 +43,10 @@ opening_parts chip room trackers = record {
   room = room;
 }
 
-module _ (chip : Chip) (room : ℕ) (trackers : List TrackerState) (some : 0 < tile_count chip) where
+module _ (chip : Chip) (room : ℕ) (trackers : List TrackerState) (some : 0 < tile_count chip) (opened : NothingStands) (absent : NothingIsOwed) where
+  nothing_stands : (router port slot : ℕ) (copy : NetCopy) → at (no_copies chip.grid chip.vcs) router port slot ≡ Some copy → ⊥
+  nothing_stands router port slot copy stands = let none = opened chip.grid chip.vcs router port slot in cc
+
   empty_list : (t : ℕ) → t < tile_count chip → list_of (opening_parts chip room trackers).unordered t ≡ buffer [] (channel_count chip)
   empty_list t inside = get_or-replicate (tile_count chip) t (buffer [] (channel_count chip)) (buffer [] 0) inside
 
@@ -56,13 +58,13 @@ module _ (chip : Chip) (room : ℕ) (trackers : List TrackerState) (some : 0 < t
     made = λ t inside n q there. let none : slice_get {X = Request} [] n ≡ Some q = ap (λ (rs : List Request). slice_get rs n) (sym (nothing_made t inside)) ∙ there in cc;
     posted = λ t inside has. absurd (true≢false (sym has ∙ has_tile-none t));
     in_order = refl;
-    of_made = λ router port slot copy stands. absurd (nothing_stands chip.grid chip.vcs router port slot copy stands);
+    of_made = λ router port slot copy stands. absurd (nothing_stands router port slot copy stands);
     owed = λ name t source inside.
-        let none = owing-absent chip.grid (no_copies chip.grid chip.vcs) name t (λ r p slot copy stands. absurd (nothing_stands chip.grid chip.vcs r p slot copy stands)) in
+        let none = absent chip.grid (no_copies chip.grid chip.vcs) name t (λ r p slot copy stands. absurd (nothing_stands r p slot copy stands)) in
         let front : times_named name (take (slice_index (replicate (tile_count chip) 0) t) []) ≡ 0 = ap (λ (k : ℕ). times_named name (take k [])) (get_or-replicate (tile_count chip) t 0 0 inside) in
         let made : times_named name (made_by [] (opening_parts chip room trackers).unordered name.0) ≡ 0 = ap (times_named name) (nothing_made name.0 source) in
         omega (arith, none, front, made);
-    reserved = λ router port copy inside stands. absurd (nothing_stands chip.grid chip.vcs router port chip.vcs copy stands);
+    reserved = λ router port copy inside stands. absurd (nothing_stands router port chip.vcs copy stands);
   }
 
   following : (t : ℕ) (tracker : TrackerState) → t < tile_count chip → IsUnused (tile_count chip) (channel_count chip) tracker → IsFollowing chip (opening_windows (tile_count chip)) (opening_parts chip room trackers).delivered t tracker
@@ -109,12 +111,12 @@ module _ (chip : Chip) (room : ℕ) (trackers : List TrackerState) (some : 0 < t
       let n = tile_count chip in
       let none : Interface = record { made = []; posted = 0; delivered = 0 } in
       let all : replicate n none ≡ map f (range_with_len 0 n) =
-      fill_by_all f (replicate n none) n none (length-replicate n none) (λ t inside. get_or-replicate n t none none inside ∙ opened t inside)
+      fill_by_all f (replicate n none) n none (length-replicate n none) (λ t inside. get_or-replicate n t none none inside ∙ idle_at t inside)
       in
       ap (λ (interfaces : List Interface). record { copies = no_copies chip.grid chip.vcs; windows = opening_windows n; ordered = []; interfaces = interfaces }) (sym all)
     where
-      opened : (t : ℕ) → t < tile_count chip → record { made = []; posted = 0; delivered = 0 } ≡ interface_of 0 [] (opening_parts chip room trackers).unordered (opening_parts chip room trackers).delivered t
-      opened t inside =
+      idle_at : (t : ℕ) → t < tile_count chip → record { made = []; posted = 0; delivered = 0 } ≡ interface_of 0 [] (opening_parts chip room trackers).unordered (opening_parts chip room trackers).delivered t
+      idle_at t inside =
           ap (λ (rs : List Request). as_interface rs 0 0) (sym (nothing_made t inside))
           ∙ ap (λ (k : ℕ). as_interface (made_by [] (opening_parts chip room trackers).unordered t) k 0) (posted t)
           ∙ ap (λ (k : ℕ). as_interface (made_by [] (opening_parts chip room trackers).unordered t) (count_by_tile t [] + count_if (has_tile 0 t)) k) (sym (get_or-replicate (tile_count chip) t 0 0 inside))

@@ -1,5 +1,5 @@
 -- What was read at a place of a list.
-use Rattle.std.proofs.Common.{◌≡◌, ◌≢◌, ℕ, zero, suc, ◌+◌, ◌<◌, ◌≤◌, List, [], ◌∷◌, length, set, get_or, Some, None, refl, sym, ◌∙◌, ap, arith}
+use Rattle.std.proofs.Common.{◌≡◌, ◌≢◌, ℕ, zero, suc, ◌+◌, ◌<◌, ◌≤◌, List, [], ◌∷◌, length, set, get_or, Option, Some, None, refl, sym, ◌∙◌, ap, arith}
 use Rattle.std.specs.Prelude.{slice_get}
 use Rattle.std.proofs.lemmas.List.{get_or_default}
 use Rattle.std.proofs.lemmas.Option.{slice_get-get_or}
@@ -16,6 +16,9 @@ pub past_end : {X : Type 0} (xs : List X) (t : ℕ) → slice_get xs t ≡ None 
 past_end [] t none = omega arith
 past_end (x ∷ xs) zero none = cc
 past_end (x ∷ xs) (suc t) none = let rest = past_end xs t none in omega arith
+
+pub same_some : {X : Type 0} (a b : X) → ◌≡◌ {A = Option X} (Some a) (Some b) → a ≡ b
+same_some a b same = cc
 
 -- a place within the list has an item
 pub record HasItem {X : Type 0} (xs : List X) (k : ℕ) : Type 0 where

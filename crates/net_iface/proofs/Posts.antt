@@ -15,7 +15,7 @@ use Rattle.net_iface.specs.OrderedNet.{requests_of}
 use Rattle.net_iface.specs.Unordered.{unordered_of}
 use Rattle.net_iface.specs.Parts.{Parts, made_by, interface_of, network_of, AreSized}
 use Rattle.net_iface.proofs.Named.{length-requests_of}
-use Rattle.net_iface.proofs.Interfaces.{other_at}
+use Rattle.net_iface.proofs.Interfaces.{as_interface, other_at}
 use Rattle.net_iface.proofs.Expected.{interface_at, no_interface}
 use Rattle.net_iface.proofs.Steps.{post_is, request_posted-no_tile, request_posted-all, request_posted-refused, is_some-request_posted}
 
@@ -67,11 +67,7 @@ some_left n b fails is = elim (cases_lt 0 n) [
   | inr none ↦ let zero_is : (n == 0) ≡ true = eq-eqb n 0 (omega arith) in cc
 ]
 
--- an interface, and what it has posted
-abbrev interface : List Request → ℕ → ℕ → Interface
-interface made posted delivered = record { made = made; posted = posted; delivered = delivered }
-
-counted : (k : ℕ) (before after : Bool) → before ≡ false → after ≡ true → k + cond before 1 0 + 1 ≡ k + cond after 1 0
+pub counted : (k : ℕ) (before after : Bool) → before ≡ false → after ≡ true → k + cond before 1 0 + 1 ≡ k + cond after 1 0
 counted k before after fresh here = rw (fresh, here) (omega arith)
 
 -- the interface of the tile has posted once more, and the others are as they were
@@ -89,10 +85,10 @@ posts_once p new t inside fresh is =
     let away : has_tile new.windows.posts u ≡ has_tile p.windows.windows.posts u =
     ap (λ (set : ℕ). has_tile set u) is ∙ has_tile-or (2 ^ t) p.windows.windows.posts u ∙ ap (λ (b : Bool). b || has_tile p.windows.windows.posts u) (has_tile-one t u ∙ ne_eqb t u (λ e. other (sym e)))
     in
-    ap (λ (b : Bool). interface (made_by p.ordered p.unordered u) (count_by_tile u p.ordered + cond b 1 0) (slice_index p.delivered u)) away
+    ap (λ (b : Bool). as_interface (made_by p.ordered p.unordered u) (count_by_tile u p.ordered + cond b 1 0) (slice_index p.delivered u)) away
     in
-    let own : interface (made_by p.ordered p.unordered t) (count_by_tile t p.ordered + cond (has_tile p.windows.windows.posts t) 1 0 + 1) (slice_index p.delivered t) ≡ g t =
-    ap (λ (k : ℕ). interface (made_by p.ordered p.unordered t) k (slice_index p.delivered t)) (counted (count_by_tile t p.ordered) (has_tile p.windows.windows.posts t) (has_tile new.windows.posts t) fresh here)
+    let own : as_interface (made_by p.ordered p.unordered t) (count_by_tile t p.ordered + cond (has_tile p.windows.windows.posts t) 1 0 + 1) (slice_index p.delivered t) ≡ g t =
+    ap (λ (k : ℕ). as_interface (made_by p.ordered p.unordered t) k (slice_index p.delivered t)) (counted (count_by_tile t p.ordered) (has_tile p.windows.windows.posts t) (has_tile new.windows.posts t) fresh here)
     in
     ap (λ (interfaces : List Interface). record { copies = p.routers.copies; windows = new.windows; ordered = p.ordered; interfaces = interfaces })
     (ap (set (map f (range_with_len 0 n)) t) own ∙ other_at f n g t inside others)

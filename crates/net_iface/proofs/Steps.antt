@@ -7,13 +7,13 @@ use Rattle.mesh_gen.specs.declared.request.Request.{Request}
 use Rattle.mesh_gen.specs.declared.kind.Kind.{Kind}
 use Rattle.mesh_gen.specs.declared.port.Port.{Port}
 use Rattle.mesh_gen.specs.declared.port.Port.TheVariants.{L}
-use Rattle.router_xy.proofs.LocalPlaces.{local_stands}
-use Rattle.vc_bank.specs.Places.{Network, at, put}
+use Rattle.vc_bank.specs.Places.{Network}
 use Rattle.chip_model.specs.declared.net_copy.NetCopy.{NetCopy}
 use Rattle.chip_model.specs.Partial.{when, ◌>>=◌}
 use Rattle.chip_model.specs.Chip.{Chip}
 use Rattle.chip_model.specs.Windows.{Windows, may_post, posted, window_closed, is_last_tick, ticked, closed_by_tick, taken_by}
 use Rattle.chip_model.specs.Copies.{Name, entered, hopped, left_by, local_place, served}
+use Rattle.window_core.proofs.Steps.{none_from_test, there_too}
 use Rattle.chip_model.specs.OrderedNetwork.{OrderedNetwork, Interface, with_interface, next_request, injected, request_posted, ordered_by_window, network_ticked, vector_taken, expected_at, expected_behind, copy_hopped, delivered_next}
 
 -- ---- a request is made
@@ -32,10 +32,6 @@ injected-full chip net t kind line interface is enters = rw (is, enters) refl
 pub injected-none : (chip : Chip) (net : OrderedNetwork) (t : ℕ) (kind : Kind) (line : ℕ) → slice_get net.interfaces t ≡ None → injected chip net t kind line ≡ None
 unfolding injected
 injected-none chip net t kind line is = rw is refl
-
-pub there_too : {X Y : Type 0} (o : Option X) (y : X → Y) → is_some (o >>= (λ x. Some (y x))) ≡ is_some o
-there_too None y = refl
-there_too (Some x) y = refl
 
 pub is_some-injected : (chip : Chip) (net : OrderedNetwork) (t : ℕ) (kind : Kind) (line : ℕ) (interface : Interface) → slice_get net.interfaces t ≡ Some interface
     → is_some (injected chip net t kind line) ≡ is_some (entered chip.grid net.copies (next_request t interface kind line))
@@ -182,10 +178,6 @@ pub delivered_next-unknown : (chip : Chip) (net : OrderedNetwork) (t : ℕ) → 
 unfolding delivered_next
 delivered_next-unknown chip net t none = nothing_expected (slice_get net.interfaces t) (expected_at chip net t) _ none
 
-none_from_test : {X : Type 0} (o : Option X) → is_some o ≡ false → o ≡ None
-none_from_test None fails = refl
-none_from_test (Some x) fails = cc
-
 pub served-none : (net : Network NetCopy) (r : ℕ) (name : Name) → local_place net r name ≡ None → served net r name ≡ None
 unfolding served
 served-none net r name none = rw none refl
@@ -195,22 +187,10 @@ pub delivered_next-absent : (chip : Chip) (net : OrderedNetwork) (t : ℕ) (inte
 unfolding delivered_next
 delivered_next-absent chip net t interface name is expects none = rw (is, expects, served-none net.copies t name (none_from_test (local_place net.copies t name) none)) refl
 
-served_from : (net : Network NetCopy) (r : ℕ) (name : Name) (place : Option (ℕ × ℕ)) → local_place net r name ≡ place → is_some (served net r name) ≡ is_some (local_place net r name)
-unfolding served
-served_from net r name None is = rw is refl
-served_from net r name (Some place) is = let there = local_stands net r name place.0 place.1 is in rw (is, there.1) refl
-
-pub is_some-delivered_next : (chip : Chip) (net : OrderedNetwork) (t : ℕ) (interface : Interface) (name : Name) → slice_get net.interfaces t ≡ Some interface → expected_at chip net t ≡ Some name
+pub is_some-delivered_next : (chip : Chip) (net : OrderedNetwork) (t : ℕ) (interface : Interface) (name : Name) → is_some (served net.copies t name) ≡ is_some (local_place net.copies t name) → slice_get net.interfaces t ≡ Some interface → expected_at chip net t ≡ Some name
     → is_some (delivered_next chip net t) ≡ is_some (local_place net.copies t name)
 unfolding delivered_next
-is_some-delivered_next chip net t interface name is expects = rw (is, expects) (there_too (served net.copies t name) _ ∙ served_from net.copies t name (local_place net.copies t name) refl)
-
--- the request of the copy that is served
-pub served_by : (net new : Network NetCopy) (r : ℕ) (name : Name) (q : Request) (port slot : ℕ) (copy : NetCopy) → local_place net r name ≡ Some (port, slot) → at net r port slot ≡ Some copy
-    → served net r name ≡ Some (q, new) → copy.request ≡ q
-unfolding served
-served_by net new r name q port slot copy place stands is =
-    (some_pair_parts copy.request q (put net r port slot (left_by L copy)) new (sym (rw (place, stands) refl) ∙ is)).0
+is_some-delivered_next chip net t interface name found is expects = rw (is, expects) (there_too (served net.copies t name) _ ∙ found)
 
 -- ---- answers
 

@@ -20,7 +20,7 @@ use Rattle.net_iface.proofs.Orders.{each_window}
 use Rattle.window_core.specs.Windows.{WindowsState, SameSizes}
 use Rattle.net_iface.proofs.Accounts.{IsAccounted-windows}
 use Rattle.net_iface.proofs.Kept.{sized_windows}
-use Rattle.net_iface.proofs.Places.{item_at, slice_get-set_same, slice_get-set_other}
+use Rattle.net_iface.proofs.Places.{same_some, item_at, slice_get-set_same, slice_get-set_other}
 use Rattle.net_iface.proofs.Room.{undelivered_few, windows_few}
 
 -- what a take is
@@ -39,9 +39,6 @@ take_is w t vector new takes next =
     let one = next_of_tile w t vector next in
     let step = taken_by-some w t vector one in
     record { count = one.at; counted = one.counted; there = one.there; is = cc }
-
-same_some : (a b : TrackerState) → ◌≡◌ {A = Option TrackerState} (Some a) (Some b) → a ≡ b
-same_some a b same = cc
 
 module _ (p : Parts) (t vector : ℕ) (new : Windows) (kept : AreKept p) (one : IsTake p.windows.windows t vector new) (window : IsWindow (tile_count p.chip) vector)
     (fit : WindowsFit p.chip p.windows.windows) (few : length p.windows.windows.closed ≤ length p.ordered)

@@ -1,4 +1,6 @@
 pub mod OrderedNet
+pub mod OneOrder
+pub mod NetworkRuns
 pub mod Parts
 pub mod Trackers
 pub mod Unordered

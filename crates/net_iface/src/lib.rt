@@ -1,9 +1,11 @@
 //! The ordered network: requests spread over the mesh in any order, a second network gives every interface the same
-//! vectors, and each interface delivers a front part of the one order that follows from them.
+//! vectors, and each interface delivers a prefix of the one order that follows from them.
 #![tactic(auto)]
 
+mod deliveries;
 mod ordered_net;
 mod requests;
 mod trackers;
 
+pub use deliveries::delivery_laws;
 pub use ordered_net::OrderedNet;

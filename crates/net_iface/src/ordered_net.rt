@@ -1,10 +1,11 @@
 ghost use Rattle.std.specs.Prelude.{◌≡◌, ◌+◌, ◌-◌, ◌^◌, ◌<◌, ◌≤◌, Some, None, IfOk, OnOk, OnErr, is_some, option_map, length, slice_get, slice_index};
 ghost use Rattle.std.specs.Bool.{OnTrue};
-ghost use Rattle.mesh_gen.specs.Limits.{most_tiles};
+ghost use Rattle.mesh_gen.specs.Limits.{IsFrom, most_tiles};
 ghost use Rattle.chip_model.specs.Chip.{chip_of_mesh, tile_count};
 ghost use Rattle.chip_model.specs.NetworkShape.{HasChannels, WindowsFit};
 ghost use Rattle.chip_model.specs.OrderedNetwork.{Interface, next_request, injected, request_posted, network_ticked, vector_taken, expected_at, expected_behind, copy_hopped, delivered_next};
-ghost use Rattle.net_iface.specs.OrderedNet.{opening, SameSizes, delivered_counts, NetworkFits, FewAreLeft};
+ghost use Rattle.net_iface.specs.OrderedNet.{opening, SameSizes, delivered_counts, delivered_by, NetworkFits, FewAreLeft};
+ghost use Rattle.net_iface.specs.OneOrder.{IsOneOrder};
 ghost use Rattle.net_iface.specs.Moves.{moves_done, most_moves};
 
 use crate::requests::{add, empty_lists, is_none_left, order_window};
@@ -14,7 +15,7 @@ use mesh_gen::{
     Counts, Items, Kind, Mesh, NoChannel, NoMemory, NotEnabled, Port, Request, Requests,
 };
 use order_tracker::Tracker;
-use router_xy::{Routers, owed_laws};
+use router_xy::{Routers, owed_laws, step_laws};
 use std::alloc::Global;
 use std::marker::Model;
 use window_core::Windows;
@@ -76,6 +77,8 @@ impl OrderedNet {
         requires { room < 2 ^ 31 }
         ensures { IfOk result (λ net. net ≡ opening (chip_of_mesh mesh.now) room) }
     {
+        owed_laws();
+        step_laws();
         let tiles = usize::from(mesh.tiles());
         Ok(OrderedNet {
             mesh: mesh.copy(alloc)?,
@@ -105,10 +108,28 @@ impl OrderedNet {
         self.routers.tiles()
     }
 
+    /// How many normal request channels a port has.
+    pub fn vcs(&self) -> u8
+        ensures vcs { result ≡ self.now.chip.vcs }
+        ensures limits { IsFrom 1 8 result }
+    {
+        self.mesh.vcs
+    }
+
+    /// How many ticks a window takes.
+    pub fn window(&self) -> u8
+        ensures { result ≡ self.now.chip.window }
+    {
+        self.mesh.window
+    }
+
     /// The requests that closed windows have ordered, in the order that every interface derives.
     pub fn order(&self) -> &[Request]
-        ensures { result.now ≡ self.now.network.ordered }
+        ensures order { result.now ≡ self.now.network.ordered }
+        ensures one { IsOneOrder self.now.chip self.now.network }
     {
+        // What this tells is true of every ordered network.
+        self.tiles();
         &self.ordered
     }
 
@@ -125,6 +146,17 @@ impl OrderedNet {
         ensures { result ≡ slice_index (delivered_counts self.now.network) t }
     {
         self.delivered[usize::from(t)]
+    }
+
+    /// The requests that the tile has delivered, in their order: a prefix of the order.
+    pub fn delivered_requests(&self, t: u8) -> &[Request]
+        requires { t < tile_count self.now.chip }
+        ensures { result.now ≡ delivered_by self.now.network t }
+    {
+        // What this tells shows that the order has as many.
+        self.tiles();
+        let count = self.delivered(t) as usize;
+        &self.order()[..count]
     }
 
     /// The order, and how many of its requests each tile has delivered.
@@ -256,6 +288,7 @@ impl OrderedNet {
         ensures kept { OnErr result (self.new ≡ self.old) }
         ensures sizes { SameSizes self.old self.new }
     {
+        step_laws();
         let Some(name) = self.expected(t) else {
             return Err(NotEnabled);
         };
@@ -314,6 +347,7 @@ impl OrderedNet {
     pub fn can_eject(&self, t: u8) -> bool
         ensures { result ≡ is_some (delivered_next self.now.chip self.now.network t) }
     {
+        step_laws();
         match self.expected(t) {
             Some(name) => self.routers.holds_local(t, name),
             None => false,

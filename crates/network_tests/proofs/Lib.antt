@@ -1,1 +1,2 @@
 mod FirstTiles
+mod Absent

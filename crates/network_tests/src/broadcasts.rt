@@ -6,7 +6,7 @@ use crate::tracker::pass;
 use broadcast::broadcast_posts;
 use core_isa::Program;
 use doc_text::{Document, Posts, Programs};
-use mesh_gen::{Items, Mesh, Tiles};
+use mesh_gen::{Items, Mesh, Request, Tiles};
 use order_tracker::Tracker;
 use std::alloc::{AllocError, Global};
 use std::test::Fail;
@@ -77,17 +77,22 @@ fn sixty_four_tiles(alloc: Global) -> Result<Document, Fail> {
     })
 }
 
+fn sources_of(alloc: Global, requests: &[Request]) -> Result<Vec<u8>, AllocError> {
+    let mut sources = Vec::new(alloc);
+    for request in requests {
+        sources.push(request.source)?;
+    }
+    Ok(sources)
+}
+
 #[test]
 fn each_tile_delivers_all_that_is_posted(rt: HostRuntime) -> Result<(), Fail> {
     let alloc = rt.alloc();
     let net = broadcast_posts(alloc, &four_tiles(alloc)?)?;
-    let (order, counts) = net.into_lists();
-    let mut sources = Vec::new(alloc);
-    for request in order.as_slice() {
-        sources.push(request.source)?;
+    for t in 0..net.tiles() {
+        let sources = sources_of(alloc, net.delivered_requests(t))?;
+        assert_eq!(rt; sources.as_slice(), [0, 3, 1, 3, 2].as_slice(), "at {t}");
     }
-    assert_eq!(rt; sources.as_slice(), [0, 3, 1, 3, 2].as_slice());
-    assert_eq!(rt; counts.as_slice(), [5, 5, 5, 5].as_slice());
     Ok(())
 }
 

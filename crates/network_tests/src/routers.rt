@@ -1,7 +1,7 @@
 ghost use Rattle.std.specs.Prelude.{◌≡◌};
 
 use mesh_gen::{Kind, Mesh, NotEnabled, Port, Request};
-use router_xy::Routers;
+use router_xy::{Routers, step_laws};
 use std::test::Fail;
 
 // The first request of a tile.
@@ -19,6 +19,7 @@ fn first_of(source: u8) -> Request
 
 #[test]
 fn the_reserved_slot_takes_in_the_expected_request_alone(rt: HostRuntime) -> Result<(), Fail> {
+    step_laws();
     let mesh = Mesh::of_size(rt.alloc(), 3, 1, 2)?;
     let mut routers = Routers::open(rt.alloc(), &mesh)?;
     assert_eq!(rt; routers.inject(first_of(0)), Ok(()));

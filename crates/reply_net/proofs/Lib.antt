@@ -1,4 +1,3 @@
-pub mod BankReads
 pub mod Steps
 pub mod Sound
 pub mod Empty

@@ -9,12 +9,11 @@ ghost use Rattle.chip_model.specs.Copies.{channels_of};
 ghost use Rattle.chip_model.specs.Replies.{no_replies, sent, forwarded, received, is_empty};
 ghost use Rattle.reply_net.specs.ReplyNetwork.{total, AreOnTheirWays, HaveChannels, Moves};
 
-use crate::banks::{empty_banks, free_slot, message_at, next_channel, put_into, take_out};
-use chip_model::Channel;
+use crate::banks::next_channel;
 use mesh_gen::{Mesh, Msg, NoChannel, NoMemory, NotEnabled, Port, route_laws};
 use std::alloc::Global;
 use std::marker::Model;
-use vc_bank::Bank;
+use vc_bank::{Bank, empty_banks, free_slot, leave, packet_at, put_into};
 
 /// The messages of the reply network. Contracts see the grid of its routers and the messages in their channels.
 #[derive(Drop)]
@@ -45,7 +44,7 @@ impl Replies {
     {
         Ok(Replies {
             mesh: Mesh::of_size(alloc, mesh.cols, mesh.rows, mesh.window)?,
-            banks: empty_banks(alloc, mesh)?,
+            banks: empty_banks(alloc, mesh.tiles(), mesh.data_vcs, false)?,
             count: 0,
         })
     }
@@ -74,12 +73,7 @@ impl Replies {
         let Some(slot) = free_slot(&self.banks, r, Port::L) else {
             return Err(NoChannel);
         };
-        let local = Channel {
-            router: r,
-            port: Port::L,
-            slot,
-        };
-        put_into(&mut self.banks, local, msg);
+        put_into(&mut self.banks, r, Port::L, slot, msg);
         self.count += 1;
         Ok(())
     }
@@ -95,14 +89,14 @@ impl Replies {
         ensures moves { OnOk result (Moves self.old.grid self.old.messages self.new.messages (record { router = r; port = port; slot = slot })) }
     {
         route_laws();
-        let Some(msg) = message_at(&self.banks, r, port, slot) else {
+        let Some(msg) = packet_at(&self.banks, r, port, slot) else {
             return Err(NotEnabled);
         };
         let Some(next) = next_channel(&self.mesh, &self.banks, r, msg) else {
             return Err(NotEnabled);
         };
-        take_out(&mut self.banks, r, port, slot);
-        put_into(&mut self.banks, next, msg);
+        leave(&mut self.banks, r, port, slot, None);
+        put_into(&mut self.banks, next.router, next.port, next.slot, msg);
         Ok(())
     }
 
@@ -117,13 +111,13 @@ impl Replies {
             → total weight self.new.messages + weight msg ≡ total weight self.old.messages) }
         ensures at_its_tile { IfOk result (λ msg. msg.to ≡ r) }
     {
-        let Some(msg) = message_at(&self.banks, r, port, slot) else {
+        let Some(msg) = packet_at(&self.banks, r, port, slot) else {
             return Err(NotEnabled);
         };
         if msg.to != r {
             return Err(NotEnabled);
         }
-        take_out(&mut self.banks, r, port, slot);
+        leave(&mut self.banks, r, port, slot, None);
         self.count -= 1;
         Ok(msg)
     }
@@ -149,7 +143,7 @@ impl Replies {
     pub fn can_hop(&self, r: u8, port: Port, slot: u8) -> bool
         ensures { result ≡ is_some (forwarded self.now.grid self.now.messages r port slot) }
     {
-        match message_at(&self.banks, r, port, slot) {
+        match packet_at(&self.banks, r, port, slot) {
             Some(msg) => next_channel(&self.mesh, &self.banks, r, msg).is_some(),
             None => false,
         }
@@ -159,7 +153,7 @@ impl Replies {
     pub fn can_eject(&self, r: u8, port: Port, slot: u8) -> bool
         ensures { result ≡ is_some (received self.now.messages r port slot) }
     {
-        match message_at(&self.banks, r, port, slot) {
+        match packet_at(&self.banks, r, port, slot) {
             Some(msg) => msg.to == r,
             None => false,
         }

@@ -1,11 +1,10 @@
-pub mod BankReads
 pub mod LocalPlaces
 pub mod Steps
 pub mod CopyWays
 pub mod OwedCounts
 pub mod Sound
-pub mod Absent
 pub mod WhereCopies
 pub mod OwedWays
 pub mod RoomForNames
 pub mod Arrived
+pub mod CopySteps

@@ -1,2 +1,3 @@
 pub mod RequestNetwork
 pub mod LocalCopies
+pub mod CopySteps

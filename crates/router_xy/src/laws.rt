@@ -1,12 +1,15 @@
-ghost use Rattle.std.specs.Prelude.{◌≡◌, ◌≢◌, ◌↔◌, ◌<◌, ◌≤◌, ◌+◌, ◌*◌, ℕ, List, length, true, is_some};
+ghost use Rattle.std.specs.Prelude.{◌≡◌, ◌≢◌, ◌↔◌, ◌<◌, ◌≤◌, ◌+◌, ◌*◌, ℕ, List, Option, Some, None, length, true, is_some};
 ghost use Rattle.std.specs.List.{All, AllPairs};
+ghost use Rattle.mesh_gen.specs.declared.port.Port.{Port};
+ghost use Rattle.mesh_gen.specs.declared.request.Request.{Request};
 ghost use Rattle.mesh_gen.specs.Grid.{Grid, tiles};
-ghost use Rattle.vc_bank.specs.Places.{Network};
-ghost use Rattle.chip_model.specs.Copies.{Name, local_place};
-ghost use Rattle.chip_model.specs.CopiesOwed.{CopiesFit, Owes, owing, NoneAhead};
+ghost use Rattle.vc_bank.specs.Places.{Network, at};
+ghost use Rattle.chip_model.specs.Copies.{Name, no_copies, entered, hopped, local_place, served};
+ghost use Rattle.chip_model.specs.CopiesOwed.{CopiesFit, Owes, owing, NoneAhead, NoneComes, ComesAlone};
 ghost use Rattle.chip_model.specs.NetworkShape.{HasChannels};
 ghost use Rattle.router_xy.specs.LocalCopies.{HasLocalCopy};
-ghost use Rattle.router_xy.specs.RequestNetwork.{IsOneWay};
+ghost use Rattle.router_xy.specs.RequestNetwork.{IsAbsent, IsOneWay};
+ghost use Rattle.router_xy.specs.CopySteps.{Serves};
 
 use chip_model::NetCopy;
 use mesh_gen::tree_laws;
@@ -30,6 +33,25 @@ pub fn owed_laws()
     // A request can be served at a router exactly where a copy of it there owes the router's own tile.
     ensures local { (net : Network NetCopy) (r : ℕ) (name : Name)
         → (is_some (local_place net r name) ≡ true) ↔ HasLocalCopy net r name }
+
+    // Of a request of which no copy stands nothing is owed.
+    ensures absent { (g : Grid) (net : Network NetCopy) (name : Name) (tile : ℕ) → IsAbsent net name → owing g net name tile ≡ 0 }
 {
     tree_laws();
 }
+
+/// The laws of the steps of copies, over every grid: which requests have copies afterwards. At run time it does nothing.
+pub fn step_laws()
+    // Before any step no copy stands anywhere.
+    ensures opened { (g : Grid) (vcs router port slot : ℕ) → at (no_copies g vcs) router port slot ≡ None }
+
+    // The request that enters is the only one of which copies come, and a hop brings none.
+    ensures enters { (g : Grid) (old new : Network NetCopy) (q : Request) → entered g old q ≡ Some new → ComesAlone q old new }
+    ensures hops { (g : Grid) (old new : Network NetCopy) (r : ℕ) (port : Port) (slot : ℕ) (out : Port) (expected : Option Name)
+        → hopped g old r port slot out expected ≡ Some new → NoneComes old new }
+
+    // A request is served exactly where a copy of it is found, and what is served is the request that has the name.
+    ensures found { (net : Network NetCopy) (r : ℕ) (name : Name) → is_some (served net r name) ≡ is_some (local_place net r name) }
+    ensures serves { (old new : Network NetCopy) (r : ℕ) (name : Name) (q : Request) → served old r name ≡ Some (q, new)
+        → Serves old new name q }
+{}

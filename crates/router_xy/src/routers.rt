@@ -6,7 +6,7 @@ ghost use Rattle.chip_model.specs.CopiesOwed.{CopiesFit, OwesMore, OwesSame, Owe
 ghost use Rattle.chip_model.specs.NetworkShape.{HasChannels};
 ghost use Rattle.router_xy.specs.RequestNetwork.{IsAbsent, IsWay, numbered, arrived};
 
-use crate::banks::{copy_at, empty_banks, entry_slot, free_slot, leave, put_into};
+use crate::banks::entry_slot;
 use crate::copies::{expects, left_by};
 use crate::local::place_owing;
 use crate::way::Way;
@@ -14,7 +14,7 @@ use chip_model::NetCopy;
 use mesh_gen::{Mesh, NoChannel, NoMemory, NotEnabled, Port, Request};
 use std::alloc::Global;
 use std::marker::Model;
-use vc_bank::Bank;
+use vc_bank::{Bank, empty_banks, free_slot, leave, packet_at, put_into};
 
 /// The copies of requests in the channels of all routers. Contracts see the grid of the routers, how many normal channels
 /// a port has, and the copies.
@@ -46,7 +46,7 @@ impl Routers {
         Ok(Routers {
             mesh: Mesh::of_size(alloc, mesh.cols, mesh.rows, mesh.window)?,
             vcs: mesh.vcs,
-            banks: empty_banks(alloc, mesh)?,
+            banks: empty_banks(alloc, mesh.tiles(), mesh.vcs, true)?,
         })
     }
 
@@ -137,7 +137,7 @@ impl Routers {
         let Some((port, slot)) = self.local_place(r, id) else {
             unreachable!()
         };
-        let Some(copy) = copy_at(&self.banks, r, port, slot) else {
+        let Some(copy) = packet_at(&self.banks, r, port, slot) else {
             unreachable!()
         };
         leave(&mut self.banks, r, port, slot, left_by(Port::L, copy));
@@ -198,7 +198,7 @@ impl Routers {
         ensures some { IfSome result (λ way. IsWay self.now.grid self.now.copies r port slot out expected way) }
         ensures none { IfNone result (hopped self.now.grid self.now.copies r port slot out expected ≡ None) }
     {
-        let Some(copy) = copy_at(&self.banks, r, port, slot) else {
+        let Some(copy) = packet_at(&self.banks, r, port, slot) else {
             return None;
         };
         if !copy.owed.has(out) {

@@ -2,3 +2,4 @@ pub mod FreeSlots
 pub mod SlotWrites
 pub mod Weights
 pub mod PlaceLaws
+pub mod BankReads

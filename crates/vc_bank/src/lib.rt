@@ -2,6 +2,8 @@
 #![tactic(auto)]
 
 mod bank;
+mod banks;
 mod slots;
 
 pub use bank::Bank;
+pub use banks::{empty_banks, free_slot, leave, packet_at, put_into};

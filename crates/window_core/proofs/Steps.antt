@@ -136,7 +136,7 @@ pub taken_by-none : (w : Windows) (t : ℕ) → (slice_get w.taken t >>= slice_g
 unfolding taken_by
 taken_by-none w t none = none_from_next w.closed (slice_get w.taken t) (λ count vector. record w { taken = set w.taken t (count + 1) }) none
 
-there_too : {X Y : Type 0} (o : Option X) (y : X → Y) → is_some (o >>= (λ x. Some (y x))) ≡ is_some o
+pub there_too : {X Y : Type 0} (o : Option X) (y : X → Y) → is_some (o >>= (λ x. Some (y x))) ≡ is_some o
 there_too None y = refl
 there_too (Some x) y = refl
 

@@ -6,9 +6,6 @@ use Rattle.broadcast.specs.Sweeps.{Sweeps, tile_moves}
 use Rattle.broadcast.proofs.Sweeping.{sweeps_next, request_slots_are}
 use Rattle.broadcast.proofs.passes.pass.Goals as goal
 
-pub move_tile-moved-requires : goal.move_tile-moved-requires
-move_tile-moved-requires c = record { vcs = (c.requires.vcs.0 ∙ sym (ap (λ chip. chip.vcs) c.loop-t.invariant.moves.sizes.chip_is), c.requires.vcs.1) }
-
 pub loop-t-preserved : goal.loop-t-preserved
 loop-t-preserved c =
     sweeps_next (tile_moves c.args.net.now.chip) c.loop-t.t c.args.net.now c.loop-t.net c.move_tile-moved.new.net c.loop-t.moved c.move_tile-moved.result

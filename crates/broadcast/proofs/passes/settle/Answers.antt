@@ -5,14 +5,11 @@ use Rattle.broadcast.proofs.passes.settle.Goals as goal
 pub loop-net-init : goal.loop-net-init
 loop-net-init c = no_pass c.args.net.now
 
-pub pass-requires : goal.pass-requires
-pass-requires c = record { vcs = (c.requires.vcs.0 ∙ sym (ap (λ chip. chip.vcs) c.loop-net.invariant.sizes.chip_is), c.requires.vcs.1) }
-
 pub loop-net-smaller : goal.loop-net-smaller
 loop-net-smaller c = fewer_left c.loop-net.net c.pass.new.net c.pass.result c.pass.ensures c.loop-net-test.true c.tiles-tiles.ensures.moves
 
 pub loop-net-preserved : goal.loop-net-preserved
-loop-net-preserved c = one_more c.args.net.now c.loop-net.net c.pass.new.net c.pass.result c.loop-net.invariant c.pass.ensures
+loop-net-preserved c = one_more c.args.net.now c.loop-net.net c.pass.new.net c.pass.result c.loop-net.invariant c.pass.ensures c.loop-net-test.true
 
 pub returns : goal.returns
-returns c = settles c.args.net.now c.loop-net.net c.pass.new.net c.pass.result c.loop-net.invariant c.pass.ensures c.loop-net-test.false
+returns c = settles c.args.net.now c.loop-net.net c.pass.new.net c.pass.result c.loop-net.invariant c.pass.ensures c.loop-net-test.false c.tiles.ensures.moves

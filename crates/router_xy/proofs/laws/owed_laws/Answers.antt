@@ -1,3 +1,4 @@
+use Rattle.router_xy.proofs.OwedCounts.{owing-absent}
 use Rattle.router_xy.proofs.OwedWays.{owed_once, one_way, none_ahead}
 use Rattle.router_xy.proofs.RoomForNames.{names_fit}
 use Rattle.router_xy.proofs.LocalPlaces.{local_found}
@@ -17,3 +18,6 @@ returns-clause-room c = names_fit
 
 pub returns-clause-local : goal.returns-clause-local
 returns-clause-local c = local_found
+
+pub returns-clause-absent : goal.returns-clause-absent
+returns-clause-absent c = owing-absent

@@ -14,7 +14,7 @@ returns-in-Some c =
     let inside = expects_tile p c.args.t c.in-Some.name expects in
     rw (← c.self.view_is)
     (c.holds_local.ensures
-    ∙ sym (is_some-delivered_next p.chip (network_of p) c.args.t (interface_of p.windows.windows.posts p.ordered p.unordered p.delivered c.args.t) c.in-Some.name (interface_at p c.args.t inside) expects))
+    ∙ sym (is_some-delivered_next p.chip (network_of p) c.args.t (interface_of p.windows.windows.posts p.ordered p.unordered p.delivered c.args.t) c.in-Some.name (c.step_laws.ensures.found _ _ _) (interface_at p c.args.t inside) expects))
 
 pub returns-in-None : goal.returns-in-None
 returns-in-None c =

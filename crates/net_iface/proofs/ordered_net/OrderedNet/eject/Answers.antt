@@ -68,7 +68,7 @@ invariant_of-self c =
     let expects = sym answer ∙ c.in-Some.is in
     let inside = expects_tile p c.args.t c.in-Some.name expects in
     let done = c.serve_local-q.ensures in
-    let next = is_next p c.serve_local-q.new.self.copies c.args.t c.in-Some.name c.serve_local-q.result kept expects done.served done.name in
+    let next = is_next p c.args.t c.in-Some.name c.serve_local-q.result kept expects (c.step_laws.ensures.serves _ _ _ _ _ done.served).stood done.name in
     let counts = risen p.delivered c.from.result c.args.t c.args.t c.index_mut.result.now c.from.ensures refl (omega (arith, c.from.ensures, inside, kept.sizes.delivered)) c.index_mut.ensures.value in (
       AreKept-eject p c.serve_local-q.new.self c.args.t c.serve_local-q.result kept inside c.pass_over.new.trackers.items _ next c.pass_over.ensures counts done.grid done.vcs (rw kept.sizes.grid at done.owed) done.requests
           (rw kept.sizes.vcs at done.reserved),
@@ -83,7 +83,7 @@ returns-clause-ok c =
     let expects = sym answer ∙ c.in-Some.is in
     let inside = expects_tile p c.args.t c.in-Some.name expects in
     let done = c.serve_local-q.ensures in
-    let next = is_next p c.serve_local-q.new.self.copies c.args.t c.in-Some.name c.serve_local-q.result kept expects done.served done.name in
+    let next = is_next p c.args.t c.in-Some.name c.serve_local-q.result kept expects (c.step_laws.ensures.serves _ _ _ _ _ done.served).stood done.name in
     let counts = risen p.delivered c.from.result c.args.t c.args.t c.index_mut.result.now c.from.ensures refl (omega (arith, c.from.ensures, inside, kept.sizes.delivered)) c.index_mut.ensures.value in
     let step =
     delivered_next-some p.chip (network_of p) c.args.t (interface_of p.windows.windows.posts p.ordered p.unordered p.delivered c.args.t) c.in-Some.name c.serve_local-q.result c.serve_local-q.new.self.copies
@@ -100,7 +100,7 @@ returns-clause-in_order c =
     let expects = sym answer ∙ c.in-Some.is in
     let inside = expects_tile p c.args.t c.in-Some.name expects in
     let done = c.serve_local-q.ensures in
-    let next = is_next p c.serve_local-q.new.self.copies c.args.t c.in-Some.name c.serve_local-q.result kept expects done.served done.name in
+    let next = is_next p c.args.t c.in-Some.name c.serve_local-q.result kept expects (c.step_laws.ensures.serves _ _ _ _ _ done.served).stood done.name in
     rw (← c.self.view_is) (ap (λ (counts : List ℕ). slice_get p.ordered (slice_index counts c.args.t)) (delivered_counts-network p kept.sizes) ∙ next)
 
 pub returns-clause-moves : goal.returns-clause-moves

@@ -26,7 +26,7 @@ pub invariant_of-result : goal.invariant_of-result
 invariant_of-result c =
     let chip = chip_of_mesh c.args.mesh.now in
     let trackers = c.in_ok-new_trackers.field-0.items in
-    let kept = AreKept-opening chip c.args.room trackers (omega (arith, c.tiles.ensures.tiles, c.tiles.ensures.limits.low)) (omega (arith, c.tiles.ensures.tiles, c.tiles.ensures.limits.high)) c.requires c.in_ok-new_trackers.ensures in
+    let kept = AreKept-opening chip c.args.room trackers (omega (arith, c.tiles.ensures.tiles, c.tiles.ensures.limits.low)) c.step_laws.ensures.opened c.owed_laws.ensures.absent (omega (arith, c.tiles.ensures.tiles, c.tiles.ensures.limits.high)) c.requires c.in_ok-new_trackers.ensures in
     (subst (λ (p : Parts). AreKept p) (sym (opened_parts c)) kept, c.in_ok-with_capacity.ensures.capacity)
 
 pub returns : goal.returns
@@ -34,4 +34,4 @@ returns c =
     let chip = chip_of_mesh c.args.mesh.now in
     ap state_of (opened_parts c)
     ∙ ap (λ (net : OrderedNetwork). record { chip = chip; network = net; room = c.args.room })
-    (opening_seen chip c.args.room c.in_ok-new_trackers.field-0.items (omega (arith, c.tiles.ensures.tiles, c.tiles.ensures.limits.low)))
+    (opening_seen chip c.args.room c.in_ok-new_trackers.field-0.items (omega (arith, c.tiles.ensures.tiles, c.tiles.ensures.limits.low)) c.step_laws.ensures.opened c.owed_laws.ensures.absent)

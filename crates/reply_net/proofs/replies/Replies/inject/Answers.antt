@@ -19,7 +19,7 @@ pub returns-in_default-clause-full : goal.returns-in_default-clause-full
 returns-in_default-clause-full c = rw (← c.self.view_is) (none_free c.self.inside.banks.items c.args.r (nothing_free c))
 
 pub put_into-requires : goal.put_into-requires
-put_into-requires c = free_found c.self.inside.banks.items c.args.r (port_number L) c.in-Some.slot (seen_free _ _ _ _ _ _ c.deref.ensures.value c.free_slot.ensures c.in-Some.is)
+put_into-requires c = (omega arith, free_found c.self.inside.banks.items c.args.r (port_number L) c.in-Some.slot (seen_free _ _ _ _ _ _ c.deref.ensures.value c.free_slot.ensures c.in-Some.is))
 
 pub overflow_add-self : goal.overflow_add-self
 overflow_add-self c = let few = few_messages (grid c.self.inside.mesh) c.self.inside.banks.items c.self.invariant.0 in let count = c.self.invariant.1 in omega arith

@@ -1,11 +1,17 @@
+use Rattle.std.proofs.Common.{◌≡◌, ℕ, false, replicate, ◌∙◌, ap}
+use Rattle.vc_bank.specs.Channels.{empty_channels}
+use Rattle.chip_model.specs.Replies.{no_replies}
 use Rattle.mesh_gen.specs.Mesh.{grid}
 use Rattle.reply_net.proofs.Sound.{sound_opened, count_empty}
 use Rattle.reply_net.proofs.replies.Replies.open.Goals as goal
+
+opened : (c : goal.In_ok-empty_banks) → c.in_ok-empty_banks.field-0.items ≡ no_replies (grid c.args.mesh.now) c.args.mesh.now.data_vcs
+opened c = c.in_ok-empty_banks.ensures ∙ ap (λ (count : ℕ). replicate count (empty_channels c.args.mesh.now.data_vcs false)) c.tiles.ensures.tiles
 
 pub invariant_of-result : goal.invariant_of-result
 invariant_of-result c =
     let size = c.in_ok-of_size.ensures in
     let given = c.args.mesh.now in (
-      sound_opened (grid c.in_ok-of_size.field-0) (grid given) given.data_vcs c.in_ok-empty_banks.field-0.items size.cols_is size.rows_is given.cols_limit given.rows_limit given.data_vcs_limit c.in_ok-empty_banks.ensures,
-      count_empty (grid given) given.data_vcs c.in_ok-empty_banks.field-0.items c.in_ok-empty_banks.ensures,
+      sound_opened (grid c.in_ok-of_size.field-0) (grid given) given.data_vcs c.in_ok-empty_banks.field-0.items size.cols_is size.rows_is given.cols_limit given.rows_limit given.data_vcs_limit (opened c),
+      count_empty (grid given) given.data_vcs c.in_ok-empty_banks.field-0.items (opened c),
     )

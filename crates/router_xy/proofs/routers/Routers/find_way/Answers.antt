@@ -8,15 +8,15 @@ use Rattle.router_xy.proofs.Sound.{normal_there}
 use Rattle.router_xy.proofs.routers.Routers.find_way.Goals as goal
 
 pub returns-in_default-clause-none : goal.returns-in_default-clause-none
-returns-in_default-clause-none c = rw (← c.self.view_is) (no_copy _ _ _ _ _ _ _ (seen_at _ _ _ _ _ _ _ c.deref.ensures.value c.copy_at.ensures c.in_default.is))
+returns-in_default-clause-none c = rw (← c.self.view_is) (no_copy _ _ _ _ _ _ _ (seen_at _ _ _ _ _ _ _ c.deref.ensures.value c.packet_at.ensures c.in_default.is))
 
 pub returns-then-not-has-clause-none : goal.returns-then-not-has-clause-none
 returns-then-not-has-clause-none c =
-    rw (← c.self.view_is) (not_owed _ _ _ _ _ _ _ c.in-Some.copy (seen_at _ _ _ _ _ _ _ c.deref.ensures.value c.copy_at.ensures c.in-Some.is) (sym c.has.ensures ∙ c.if-not-has.true))
+    rw (← c.self.view_is) (not_owed _ _ _ _ _ _ _ c.in-Some.copy (seen_at _ _ _ _ _ _ _ c.deref.ensures.value c.packet_at.ensures c.in-Some.is) (sym c.has.ensures ∙ c.if-not-has.true))
 
 pub returns-in_default-neighbour-clause-none : goal.returns-in_default-neighbour-clause-none
 returns-in_default-neighbour-clause-none c =
-    rw (← c.self.view_is) (no_router _ _ _ _ _ _ _ c.in-Some.copy (seen_at _ _ _ _ _ _ _ c.deref.ensures.value c.copy_at.ensures c.in-Some.is) (sym c.has.ensures ∙ c.if-not-has.false) (sym c.neighbour.ensures ∙ c.in_default-neighbour.is))
+    rw (← c.self.view_is) (no_router _ _ _ _ _ _ _ c.in-Some.copy (seen_at _ _ _ _ _ _ _ c.deref.ensures.value c.packet_at.ensures c.in-Some.is) (sym c.has.ensures ∙ c.if-not-has.false) (sym c.neighbour.ensures ∙ c.in_default-neighbour.is))
 
 pub entry_slot-requires : goal.entry_slot-requires
 entry_slot-requires c =
@@ -27,5 +27,5 @@ entry_slot-requires c =
 
 pub returns-in_default-entry_slot-clause-none : goal.returns-in_default-entry_slot-clause-none
 returns-in_default-entry_slot-clause-none c =
-    rw (← c.self.view_is) (no_entry _ _ _ _ _ _ _ c.in-Some.copy c.in-Some-neighbour.to (seen_at _ _ _ _ _ _ _ c.deref.ensures.value c.copy_at.ensures c.in-Some.is) (sym c.has.ensures ∙ c.if-not-has.false) (sym c.neighbour.ensures ∙ c.in-Some-neighbour.is)
+    rw (← c.self.view_is) (no_entry _ _ _ _ _ _ _ c.in-Some.copy c.in-Some-neighbour.to (seen_at _ _ _ _ _ _ _ c.deref.ensures.value c.packet_at.ensures c.in-Some.is) (sym c.has.ensures ∙ c.if-not-has.false) (sym c.neighbour.ensures ∙ c.in-Some-neighbour.is)
     (seen_entry _ _ _ _ _ _ c.in-Some.copy.request _ _ _ c.deref-2.ensures.value c.opposite.ensures c.expects-is_expected.ensures c.entry_slot.ensures c.in_default-entry_slot.is))

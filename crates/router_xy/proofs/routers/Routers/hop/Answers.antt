@@ -1,4 +1,4 @@
-use Rattle.std.proofs.Common.{◌≡◌, ◌⊎◌, ℕ, ◌+◌, ◌<◌, true, ◌∙◌, ap, subst, Some}
+use Rattle.std.proofs.Common.{arith, ◌≡◌, ◌⊎◌, ℕ, ◌+◌, ◌<◌, true, ◌∙◌, ap, subst, Some}
 use Rattle.mesh_gen.specs.Grid.{tiles}
 use Rattle.mesh_gen.specs.Mesh.{grid}
 use Rattle.mesh_gen.specs.Ports.{port_number, opposite}
@@ -18,7 +18,7 @@ put_into-requires c =
     let net = c.self.inside.banks.items in
     let way = c.in-Some.way in
     let go : IsWay g net c.args.r c.args.port c.args.slot c.args.out c.args.expected way = rw (← c.self.view_is) at c.in-Some.ensures.some in
-    entry_beside g c.self.inside.vcs net c.leave.new.banks.items c.args.r c.args.port c.args.slot c.args.out c.opposite.result c.args.expected way c.left_by.result c.self.invariant go c.leave.ensures c.opposite.ensures
+    (omega arith, entry_beside g c.self.inside.vcs net c.leave.new.banks.items c.args.r c.args.port c.args.slot c.args.out c.opposite.result c.args.expected way c.left_by.result c.self.invariant go c.leave.ensures c.opposite.ensures)
 
 go : (c : goal.After-put_into) → IsWay (grid c.self.inside.mesh) c.self.inside.banks.items c.args.r c.args.port c.args.slot c.args.out c.args.expected c.in-Some.way
 go c = rw (← c.self.view_is) at c.in-Some.ensures.some

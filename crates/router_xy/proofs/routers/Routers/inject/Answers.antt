@@ -1,4 +1,4 @@
-use Rattle.std.proofs.Common.{◌≡◌, ◌<◌, sym, ◌∙◌, ap, subst, Some}
+use Rattle.std.proofs.Common.{arith, ◌≡◌, ◌<◌, sym, ◌∙◌, ap, subst, Some}
 use Rattle.mesh_gen.specs.declared.port.Port.TheVariants.{L}
 use Rattle.mesh_gen.specs.Grid.{tiles}
 use Rattle.mesh_gen.specs.Mesh.{grid}
@@ -18,7 +18,7 @@ pub returns-in_default-clause-err : goal.returns-in_default-clause-err
 returns-in_default-clause-err c = rw (← c.self.view_is) (not_entered _ _ _ (seen_free _ _ _ _ _ _ c.deref.ensures.value c.free_slot.ensures c.in_default.is))
 
 pub put_into-requires : goal.put_into-requires
-put_into-requires c = lowest_is_free (channels_of c.self.inside.banks.items c.args.q.source) (port_number L) c.in-Some.slot (seen_free _ _ _ _ _ _ c.deref.ensures.value c.free_slot.ensures c.in-Some.is)
+put_into-requires c = (omega arith, lowest_is_free (channels_of c.self.inside.banks.items c.args.q.source) (port_number L) c.in-Some.slot (seen_free _ _ _ _ _ _ c.deref.ensures.value c.free_slot.ensures c.in-Some.is))
 
 lowest : (c : goal.After-put_into) → lowest_free (channels_of c.self.inside.banks.items c.args.q.source) (port_number L) ≡ Some c.in-Some.slot
 lowest c = seen_free _ _ _ _ _ _ c.deref.ensures.value c.free_slot.ensures c.in-Some.is

@@ -15,12 +15,12 @@ use Rattle.router_xy.proofs.Sound.{sound-leave}
 use Rattle.router_xy.proofs.Arrived.{arrived-serve}
 use Rattle.router_xy.proofs.routers.Routers.serve_local.Goals as goal
 
-pub unreachable-requires-in_default-copy_at : goal.unreachable-requires-in_default-copy_at
-unreachable-requires-in_default-copy_at c =
+pub unreachable-requires-in_default-packet_at : goal.unreachable-requires-in_default-packet_at
+unreachable-requires-in_default-packet_at c =
     let net = c.self.inside.banks.items in
     let is : numbered c.local_place.result ≡ local_place net c.args.r c.args.id = rw (← c.self.view_is) at c.local_place.ensures in
     let there = local_stands net c.args.r c.args.id _ _ (seen_place net c.args.r c.args.id c.local_place.result c.in-Some.port c.in-Some.slot is c.in-Some.is) in
-    let none = seen_at c.deref.result.now net c.args.r (port_number c.in-Some.port) c.in-Some.slot _ _ c.deref.ensures.value c.copy_at.ensures c.in_default-copy_at.is in
+    let none = seen_at c.deref.result.now net c.args.r (port_number c.in-Some.port) c.in-Some.slot _ _ c.deref.ensures.value c.packet_at.ensures c.in_default-packet_at.is in
     let stands = there.1 in
     cc
 
@@ -30,19 +30,19 @@ place c =
     let is : numbered c.local_place.result ≡ local_place net c.args.r c.args.id = rw (← c.self.view_is) at c.local_place.ensures in
     seen_place net c.args.r c.args.id c.local_place.result c.in-Some.port c.in-Some.slot is c.in-Some.is
 
-stands : (c : goal.After-result-1) → at c.self.inside.banks.items c.args.r (port_number c.in-Some.port) c.in-Some.slot ≡ Some c.in-Some-copy_at.copy
-stands c = seen_at c.deref.result.now c.self.inside.banks.items c.args.r (port_number c.in-Some.port) c.in-Some.slot _ _ c.deref.ensures.value c.copy_at.ensures c.in-Some-copy_at.is
+stands : (c : goal.After-result-1) → at c.self.inside.banks.items c.args.r (port_number c.in-Some.port) c.in-Some.slot ≡ Some c.in-Some-packet_at.copy
+stands c = seen_at c.deref.result.now c.self.inside.banks.items c.args.r (port_number c.in-Some.port) c.in-Some.slot _ _ c.deref.ensures.value c.packet_at.ensures c.in-Some-packet_at.is
 
 -- the copy is of the request, and owes the tile
-local_copy : (c : goal.After-result-1) → (is_named c.args.id c.in-Some-copy_at.copy.request ≡ true) × (owes c.in-Some-copy_at.copy L ≡ true)
+local_copy : (c : goal.After-result-1) → (is_named c.args.id c.in-Some-packet_at.copy.request ≡ true) × (owes c.in-Some-packet_at.copy L ≡ true)
 local_copy c =
     let there = local_stands c.self.inside.banks.items c.args.r c.args.id (port_number c.in-Some.port) c.in-Some.slot (place c) in
-    subst (λ copy. (is_named c.args.id copy.request ≡ true) × (owes copy L ≡ true)) (some_is there.0 c.in-Some-copy_at.copy (sym there.1 ∙ stands c)) (there.2, there.3)
+    subst (λ copy. (is_named c.args.id copy.request ≡ true) × (owes copy L ≡ true)) (some_is there.0 c.in-Some-packet_at.copy (sym there.1 ∙ stands c)) (there.2, there.3)
 
-on : (c : goal.After-result-1) → StandsOnTree (grid c.self.inside.mesh) c.args.r c.in-Some-copy_at.copy
-on c = c.self.invariant.fit.stand c.args.r (port_number c.in-Some.port) c.in-Some.slot c.in-Some-copy_at.copy (stands c)
+on : (c : goal.After-result-1) → StandsOnTree (grid c.self.inside.mesh) c.args.r c.in-Some-packet_at.copy
+on c = c.self.invariant.fit.stand c.args.r (port_number c.in-Some.port) c.in-Some.slot c.in-Some-packet_at.copy (stands c)
 
-leaves : (c : goal.After-result-1) → Leaves c.self.inside.banks.items c.leave.new.banks.items c.args.r (port_number c.in-Some.port) c.in-Some.slot L c.in-Some-copy_at.copy c.left_by.result
+leaves : (c : goal.After-result-1) → Leaves c.self.inside.banks.items c.leave.new.banks.items c.args.r (port_number c.in-Some.port) c.in-Some.slot L c.in-Some-packet_at.copy c.left_by.result
 leaves c = record { stands = stands c; owed = (local_copy c).1; left_is = c.left_by.ensures; made = c.leave.ensures }
 
 pub invariant_of-self : goal.invariant_of-self
@@ -50,10 +50,10 @@ invariant_of-self c = sound-leave c.self.invariant (leaves c)
 
 pub returns-clause-served : goal.returns-clause-served
 returns-clause-served c =
-    rw (← c.self.view_is, c.leave.ensures, c.left_by.ensures) (served_at c.self.inside.banks.items c.args.r c.args.id (port_number c.in-Some.port) c.in-Some.slot c.in-Some-copy_at.copy (place c) (stands c))
+    rw (← c.self.view_is, c.leave.ensures, c.left_by.ensures) (served_at c.self.inside.banks.items c.args.r c.args.id (port_number c.in-Some.port) c.in-Some.slot c.in-Some-packet_at.copy (place c) (stands c))
 
 pub returns-clause-name : goal.returns-clause-name
-returns-clause-name c = name_is c.args.id c.in-Some-copy_at.copy.request (local_copy c).0
+returns-clause-name c = name_is c.args.id c.in-Some-packet_at.copy.request (local_copy c).0
 
 pub returns-clause-owed : goal.returns-clause-owed
 returns-clause-owed c = rw (← c.self.view_is) (owes_less (on c) (leaves c))

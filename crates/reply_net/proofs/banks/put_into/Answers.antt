@@ -1,6 +1,0 @@
-use Rattle.std.proofs.Common.{[]}
-use Rattle.reply_net.proofs.BankReads.{write_in}
-use Rattle.reply_net.proofs.banks.put_into.Goals as goal
-
-pub returns-in-Some : goal.returns-in-Some
-returns-in-Some c = let a = c.in-Some.ensures in write_in _ _ _ _ _ _ _ _ c.from.ensures (a.item.3.1 []) c.put.ensures.put

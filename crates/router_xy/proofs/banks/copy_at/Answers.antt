@@ -1,9 +1,0 @@
-use Rattle.std.proofs.Common.{[]}
-use Rattle.router_xy.proofs.BankReads.{read_in, read_past}
-use Rattle.router_xy.proofs.banks.copy_at.Goals as goal
-
-pub returns-in-Some : goal.returns-in-Some
-returns-in-Some c = let a = c.in-Some.ensures in read_in _ _ _ _ _ _ _ c.from.ensures (a.lookup.3.1 []) c.at.ensures
-
-pub returns-in-None : goal.returns-in-None
-returns-in-None c = let a = c.in-None.ensures in read_past _ _ _ _ _ c.from.ensures a.lookup.3

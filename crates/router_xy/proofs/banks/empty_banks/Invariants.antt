@@ -1,6 +1,0 @@
-use Rattle.std.proofs.Common.{◌≡◌, replicate, true}
-use Rattle.vc_bank.specs.Channels.{empty_channels}
-use Rattle.router_xy.proofs.banks.empty_banks.Given as goal
-
-abbrev pub invariant-loop : goal.invariant-loop
-invariant-loop l = l.banks.items ≡ replicate l.counter (empty_channels l.mesh.vcs true)
