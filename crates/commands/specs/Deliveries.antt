@@ -1,8 +1,10 @@
 -- The text of `deliver`: of each tile, in rising order, a line of the sources that it has delivered.
 use Rattle.std.specs.Prelude.{ℕ, ◌≡◌, ◌+◌, true, List, [], ◌∷◌, ◌++◌, codes, decimal}
 use Rattle.doc_text.specs.Doc.{Doc}
-use Rattle.chip_model.specs.OrderedNetwork.{OrderedNetwork}
+use Rattle.chip_model.specs.Chip.{chip_of}
 use Rattle.chip_model.specs.Delivery.{DeliversPosts, delivered_lists}
+use Rattle.net_iface.specs.OneOrder.{IsOneOrder}
+use Rattle.broadcast.specs.Settled.{broadcast_network}
 use Rattle.commands.specs.Entries.{rest_text}
 
 -- what stands before a tile's list
@@ -22,8 +24,12 @@ lines_from tile (list ∷ lists) = tile_line tile list ++ lines_from (tile + 1) 
 abbrev pub deliveries_text : List (List ℕ) → List ℕ
 deliveries_text lists = lines_from 0 lists
 
--- a network in which all that a description posts has been broadcast has this text
+-- the text of `deliver`: the lines of the network in which all that a document posts has been broadcast
+abbrev pub deliver_text : Doc → List ℕ
+deliver_text doc = deliveries_text (delivered_lists (broadcast_network doc))
+
+-- it is the text of `deliver`; that network is one of the definition, and its tiles deliver prefixes of one order
 pub record IsDelivered (doc : Doc) (text : List ℕ) : Type 0 where
-  pub network : OrderedNetwork
-  pub delivers : DeliversPosts doc network
-  pub lines : text ≡ deliveries_text (delivered_lists network)
+  pub text_is : text ≡ deliver_text doc
+  pub delivers : DeliversPosts doc (broadcast_network doc)
+  pub one_order : IsOneOrder (chip_of doc) (broadcast_network doc)

@@ -1,4 +1,4 @@
--- The commands: the words of each, and the texts that each may write of a description.
+-- The commands: the arguments of each, and the text that each writes of a document.
 use Rattle.std.specs.Prelude.{◌≡◌, ℕ, List, [], ◌∷◌, Option, Some, None, Ok, codes, if◌then◌else◌}
 use Rattle.std.specs.Str.{bytes_eq}
 use Rattle.doc_text.specs.Doc.{Doc}
@@ -9,6 +9,7 @@ use Rattle.commands.specs.declared.command.Command.TheVariants.{Order, Show, Del
 use Rattle.commands.specs.Line.{order_text}
 use Rattle.commands.specs.Deliveries.{IsDelivered}
 
+-- the arguments of a command
 abbrev pub words_of : Command → List (List ℕ)
 words_of Order = codes "order" ∷ []
 words_of Show = codes "show" ∷ []
@@ -19,7 +20,7 @@ pub record IsShown (doc : Doc) (text : List ℕ) : Type 0 where
   pub canonical_is : text ≡ canonical doc
   pub read_back : reading text ≡ Ok doc
 
--- a text of a command for a description: the one of its order, its canonical one, or one of what its broadcast delivers
+-- the text of a command for a document: that of its order, its canonical one, or that of what its broadcast delivers
 abbrev pub IsTextOf : Command → Doc → List ℕ → Type 0
 IsTextOf Order doc text = text ≡ order_text doc
 IsTextOf Show doc text = IsShown doc text

@@ -1,10 +1,8 @@
-ghost use Rattle.std.specs.Prelude.{◌≡◌, ◌<◌, ◌≤◌, take, slice_index, OnOk, OnErr};
+ghost use Rattle.std.specs.Prelude.{◌≤◌, OnOk, OnErr};
 ghost use Rattle.outside_io.specs.Streams.{Rose, Appends, AppendsPart};
 ghost use Rattle.doc_text.specs.Doc.{doc_of};
-ghost use Rattle.chip_model.specs.Chip.{tile_count};
 ghost use Rattle.chip_model.specs.OrderedNetwork.{sources};
 ghost use Rattle.chip_model.specs.Delivery.{delivered_lists};
-ghost use Rattle.net_iface.specs.OrderedNet.{delivered_counts};
 ghost use Rattle.commands.specs.Deliveries.{label_text, tile_line, deliveries_text, IsDelivered};
 ghost use Rattle.commands.specs.Outcome.{WroteSome};
 
@@ -43,20 +41,9 @@ fn write_lines<K: Sink>(sink: &mut K, net: &OrderedNet) -> Result<(), WriteFault
     ensures fault { OnErr result (Rose (K.faults sink.old) (K.faults sink.new)) }
 {
     for t in 0..net.tiles() {
-        write_line(sink, t, delivered_by(net, t))?;
+        write_line(sink, t, net.delivered_requests(t))?;
     }
     Ok(())
-}
-
-// The requests that a tile has delivered: the first ones of the order.
-fn delivered_by(net: &OrderedNet, t: u8) -> &[Request]
-    requires { t < tile_count net.now.chip }
-    ensures { result.now ≡ take (slice_index (delivered_counts net.now.network) t) net.now.network.ordered }
-{
-    // What this tells shows that the order has as many.
-    net.tiles();
-    let count = net.delivered(t) as usize;
-    &net.order()[..count]
 }
 
 // The line of a tile that has delivered these requests.

@@ -12,18 +12,18 @@ returns-in_err-write_line-clause-err g c =
     let net = c.args.net.now in
     let whole = deliveries_text (delivered_lists net.network) in
     let inside : c.loop-t.t < tile_count net.chip = omega arith in
-    let next = next_line net.chip net.network c.loop-t.t c.delivered_by.result.now c.tiles-t-end.ensures.fits inside c.delivered_by.ensures in
+    let next = next_line net.chip net.network c.loop-t.t c.delivered_requests.result.now c.tiles-t-end.ensures.fits inside c.delivered_requests.ensures in
     let written = subst (Writes (g.K.Sink.held c.args.sink.now) (g.K.Sink.held c.loop-t.sink) whole) next c.loop-t.invariant.written in
-    on_error c.from_residual.result _ (Writes-cut _ _ _ whole (tile_line c.loop-t.t (sources c.delivered_by.result.now)) _ written c.in_err-write_line.ensures.err)
+    on_error c.from_residual.result _ (Writes-cut _ _ _ whole (tile_line c.loop-t.t (sources c.delivered_requests.result.now)) _ written c.in_err-write_line.ensures.err)
 
 pub loop-t-preserved : goal.loop-t-preserved
 loop-t-preserved g c =
     let net = c.args.net.now in
     let whole = deliveries_text (delivered_lists net.network) in
     let inside : c.loop-t.t < tile_count net.chip = omega arith in
-    let next = next_line net.chip net.network c.loop-t.t c.delivered_by.result.now c.tiles-t-end.ensures.fits inside c.delivered_by.ensures in
+    let next = next_line net.chip net.network c.loop-t.t c.delivered_requests.result.now c.tiles-t-end.ensures.fits inside c.delivered_requests.ensures in
     let written = subst (Writes (g.K.Sink.held c.args.sink.now) (g.K.Sink.held c.loop-t.sink) whole) next c.loop-t.invariant.written in
     record {
-      written = Writes-more _ _ _ whole (tile_line c.loop-t.t (sources c.delivered_by.result.now)) _ written c.in_ok-write_line.ensures.ok;
+      written = Writes-more _ _ _ whole (tile_line c.loop-t.t (sources c.delivered_requests.result.now)) _ written c.in_ok-write_line.ensures.ok;
       count = omega arith;
     }
