@@ -1,5 +1,5 @@
 -- The accesses of a tile stand in the order of its program.
-use Rattle.std.proofs.Common.{◌≡◌, ℕ, ◌+◌, ◌<◌, ◌≤◌, ◌⊎◌, ◌≢◌, zero, suc, List, [], ◌∷◌, ◌++◌, Some, slice_get, set, sym, ap, ◌∙◌, subst, inl, inr, refl, arith}
+use Rattle.std.proofs.Common.{◌≡◌, ℕ, ◌+◌, ◌<◌, ◌≤◌, ◌≢◌, zero, suc, List, [], ◌∷◌, ◌++◌, Some, slice_get, set, sym, ap, ◌∙◌, subst, inl, inr, refl, arith}
 use Rattle.std.proofs.lemmas.Option.{same_Some, option_and_then_some}
 use Rattle.std.proofs.lemmas.Bool.{cases_eq}
 use Rattle.core_isa.specs.declared.instr.Instr.{Instr}

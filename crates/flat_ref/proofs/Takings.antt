@@ -1,5 +1,5 @@
 -- What can be taken, as a relation.
-use Rattle.std.proofs.Common.{◌≡◌, ℕ, ◌-◌, ◌%◌, ◌⊎◌, ◌==◌, ◌&&◌, ◌||◌, not, if◌then◌else◌, eqb, leb, cond, Bool, true, false, List, Option, Some, None, option_and_then, length, slice_get, get_or, set, sym, ap, ◌∙◌, inl, inr, refl, arith}
+use Rattle.std.proofs.Common.{◌≡◌, ℕ, ◌-◌, ◌%◌, ◌==◌, ◌&&◌, ◌||◌, not, if◌then◌else◌, eqb, leb, cond, Bool, true, false, List, Option, Some, None, option_and_then, length, slice_get, get_or, set, sym, ap, ◌∙◌, inl, inr, refl, arith}
 use Rattle.std.proofs.lemmas.Option.{same_Some, cond_some, option_and_then_some}
 use Rattle.std.proofs.lemmas.Bool.{and_parts, and_from, eqb-true, eq-eqb}
 use Rattle.std.proofs.lemmas.Bool.Decides.{nat_tests}

@@ -1,16 +1,15 @@
 -- What memory holds once accesses are taken.
-use Rattle.std.proofs.Common.{◌≡◌, ℕ, ◌<◌, ◌%◌, ◌⊎◌, true, false, eqb, cond, List, [], ◌∷◌, ◌++◌, Some, length, get_or, set, sym, ap, ◌∙◌, inl, inr, refl, length-set, get_or-set_same, get_or-set_other, arith}
+use Rattle.std.proofs.Common.{◌≡◌, ℕ, ◌<◌, ◌%◌, true, false, eqb, cond, List, [], ◌∷◌, ◌++◌, Some, length, get_or, set, sym, ap, ◌∙◌, inl, inr, refl, length-set, get_or-set_same, get_or-set_other, arith}
 use Rattle.std.proofs.lemmas.Option.{same_Some, option_and_then_some}
 use Rattle.std.proofs.lemmas.Bool.{cases_eq, eq-eqb, false≢true}
 use Rattle.std.proofs.lemmas.Bool.Decides.{nat_tests}
 use Rattle.core_isa.specs.declared.instr.Instr.{Instr}
 use Rattle.core_isa.specs.Core.{CoreState}
 use Rattle.report_text.specs.declared.access.Access.{Access}
-use Rattle.report_text.specs.declared.access.AccessKind.TheVariants as kind
 use Rattle.report_text.specs.Accesses.{reads, writes, read_by}
 use Rattle.flat_ref.specs.declared.flat.Flat.{Flat}
 use Rattle.flat_ref.specs.Taking.{taken, taken_all}
-use Rattle.flat_ref.specs.Order.{IsLoadOf, IsStoreOf, IsSwapOf, IsAddOf, IsAccessOf, word_by, last_stored}
+use Rattle.flat_ref.specs.Order.{IsLoadOf, IsAccessOf, word_by, last_stored}
 use Rattle.flat_ref.proofs.Runs.{taken_all_none, taken_all_cons, taken_all-append}
 use Rattle.flat_ref.proofs.Takings.{Counted, Received, takes}
 

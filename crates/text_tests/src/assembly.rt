@@ -81,10 +81,16 @@ fn with_most_instructions(alloc: Global, last: &str) -> Result<String, AllocErro
 }
 
 #[test]
-fn a_program_has_at_most_1024_instructions(rt: HostRuntime) -> Result<(), Fail> {
+fn a_program_has_up_to_1024_instructions(rt: HostRuntime) -> Result<(), Fail> {
     let alloc = rt.alloc();
     let text = with_most_instructions(alloc, "end: # no instruction")?;
     assert_eq!(rt; assemble(alloc, text.as_str())?.instrs().len(), 1024);
+    Ok(())
+}
+
+#[test]
+fn instruction_1025_is_refused_after_its_word(rt: HostRuntime) -> Result<(), Fail> {
+    let alloc = rt.alloc();
     for (last, kind) in [
         ("halt", AsmKind::Length),
         ("add r1", AsmKind::Length),
@@ -106,61 +112,80 @@ fn a_program_has_at_most_1024_instructions(rt: HostRuntime) -> Result<(), Fail> 
     Ok(())
 }
 
-#[test]
-fn a_program_goes_into_its_lines_and_back(rt: HostRuntime) -> Result<(), Fail> {
-    let alloc = rt.alloc();
-    assert_eq!(rt; assemble(alloc, "")?.instrs().len(), 0);
-    let text =
-        "_a1: # the first\n\tli r7 004294967295\r\nadd r1 r2 r3#x\n\nsub  r4 r5 r6\naddi r0 r1 0000000000000000000000000000000000000012\nB: ld r1 r0 4\nst r1 r0 8\nswap r1 r0 9\nfadd r2 r1 0\nbeq r1 r2 B\nbne r1 r2 end\njmp @013\ntid r1\njmp _a1\nend:\nhalt\nlast:";
-    let expected = [
-        Instr::Li {
-            rd: 7,
-            n: 4294967295,
-        },
-        Instr::Add {
-            rd: 1,
-            ra: 2,
-            rb: 3,
-        },
-        Instr::Sub {
-            rd: 4,
-            ra: 5,
-            rb: 6,
-        },
-        Instr::Addi {
-            rd: 0,
-            ra: 1,
-            n: 12,
-        },
-        Instr::Ld { rd: 1, ra: 0, n: 4 },
-        Instr::St { rs: 1, ra: 0, n: 8 },
-        Instr::Swap { rd: 1, ra: 0, n: 9 },
-        Instr::Fadd { rd: 2, ra: 1, n: 0 },
-        Instr::Beq {
-            ra: 1,
-            rb: 2,
-            target: 4,
-        },
-        Instr::Bne {
-            ra: 1,
-            rb: 2,
-            target: 13,
-        },
-        Instr::Jmp { target: 13 },
-        Instr::Tid { rd: 1 },
-        Instr::Jmp { target: 0 },
-        Instr::Halt,
-    ];
-    let program = assemble(alloc, text)?;
-    assert_eq!(rt; program.instrs(), expected.as_slice());
-    assert_eq!(rt; program.copy(alloc)?.instrs(), expected.as_slice());
+// Instructions of every kind.
+const INSTRS: [Instr; 14] = [
+    Instr::Li {
+        rd: 7,
+        n: 4294967295,
+    },
+    Instr::Add {
+        rd: 1,
+        ra: 2,
+        rb: 3,
+    },
+    Instr::Sub {
+        rd: 4,
+        ra: 5,
+        rb: 6,
+    },
+    Instr::Addi {
+        rd: 0,
+        ra: 1,
+        n: 12,
+    },
+    Instr::Ld { rd: 1, ra: 0, n: 4 },
+    Instr::St { rs: 1, ra: 0, n: 8 },
+    Instr::Swap { rd: 1, ra: 0, n: 9 },
+    Instr::Fadd { rd: 2, ra: 1, n: 0 },
+    Instr::Beq {
+        ra: 1,
+        rb: 2,
+        target: 4,
+    },
+    Instr::Bne {
+        ra: 1,
+        rb: 2,
+        target: 13,
+    },
+    Instr::Jmp { target: 13 },
+    Instr::Tid { rd: 1 },
+    Instr::Jmp { target: 0 },
+    Instr::Halt,
+];
 
+// A text of them.
+const TEXT: &str =
+    "_a1: # the first\n\tli r7 004294967295\r\nadd r1 r2 r3#x\n\nsub  r4 r5 r6\naddi r0 r1 0000000000000000000000000000000000000012\nB: ld r1 r0 4\nst r1 r0 8\nswap r1 r0 9\nfadd r2 r1 0\nbeq r1 r2 B\nbne r1 r2 end\njmp @013\ntid r1\njmp _a1\nend:\nhalt\nlast:";
+
+// Their lines.
+const PRINTED: &[u8] =
+    b"li r7 4294967295\nadd r1 r2 r3\nsub r4 r5 r6\naddi r0 r1 12\nld r1 r0 4\nst r1 r0 8\nswap r1 r0 9\nfadd r2 r1 0\nbeq r1 r2 @4\nbne r1 r2 @13\njmp @13\ntid r1\njmp @0\nhalt\n";
+
+#[test]
+fn a_text_assembles(rt: HostRuntime) -> Result<(), Fail> {
+    let program = assemble(rt.alloc(), TEXT)?;
+    assert_eq!(rt; program.instrs(), INSTRS.as_slice());
+    Ok(())
+}
+
+#[test]
+fn a_copy_is_equal(rt: HostRuntime) -> Result<(), Fail> {
+    let program = assemble(rt.alloc(), "tid r1\nhalt")?;
+    let copy = program.copy(rt.alloc())?;
+    assert_eq!(rt;
+        copy.instrs(),
+        [Instr::Tid { rd: 1 }, Instr::Halt].as_slice()
+    );
+    Ok(())
+}
+
+#[test]
+fn instructions_are_printed_a_line_each(rt: HostRuntime) -> Result<(), Fail> {
+    let alloc = rt.alloc();
     let mut sink = MemSink::new([0; 256].to_vec(alloc)?, Vec::new(alloc));
-    for instr in program.instrs() {
+    for instr in &INSTRS {
         assert_eq!(rt; print_instr(instr, &mut sink), Ok(()));
     }
-    let printed =
-        b"li r7 4294967295\nadd r1 r2 r3\nsub r4 r5 r6\naddi r0 r1 12\nld r1 r0 4\nst r1 r0 8\nswap r1 r0 9\nfadd r2 r1 0\nbeq r1 r2 @4\nbne r1 r2 @13\njmp @13\ntid r1\njmp @0\nhalt\n";
-    assert_eq!(rt; sink.held(), printed.as_slice());
+    assert_eq!(rt; sink.held(), PRINTED);
     Ok(())
 }

@@ -89,30 +89,41 @@ const BAD: [(&str, u64); 45] = [
 ];
 
 #[test]
-fn lines_of_every_kind_are_read_or_the_first_bad_one_is_named(rt: HostRuntime) -> Result<(), Fail> {
-    let alloc = rt.alloc();
+fn good_lines_are_read(rt: HostRuntime) -> Result<(), Fail> {
     for (text, count) in &GOOD {
         assert_eq!(rt;
-            read_events(alloc, text.as_bytes())?.len(),
+            read_events(rt.alloc(), text.as_bytes())?.len(),
             *count,
             "{text}"
         );
     }
+    Ok(())
+}
+
+#[test]
+fn the_first_bad_line_is_named(rt: HostRuntime) {
     for (text, line) in &BAD {
         assert_eq!(rt;
-            read_events(alloc, text.as_bytes()).err(),
+            read_events(rt.alloc(), text.as_bytes()).err(),
             Some(LinesEnd::EventFault { line: *line }),
             "{text}"
         );
     }
-    // Bytes that are no text: passed over behind a word of a report, and bad in the line of an event.
+}
+
+#[test]
+fn bytes_that_are_no_text_are_passed_over_in_other_lines(rt: HostRuntime) -> Result<(), Fail> {
     assert_eq!(rt;
-        read_events(alloc, b"q \xff\xfe\ne tick\n")?.as_slice(),
+        read_events(rt.alloc(), b"q \xff\xfe\ne tick\n")?.as_slice(),
         [Event::Tick].as_slice()
     );
+    Ok(())
+}
+
+#[test]
+fn bytes_that_are_no_text_are_bad_in_the_line_of_an_event(rt: HostRuntime) {
     assert_eq!(rt;
-        read_events(alloc, b"e tick\ne core \xff\n").err(),
+        read_events(rt.alloc(), b"e tick\ne core \xff\n").err(),
         Some(LinesEnd::EventFault { line: 2 })
     );
-    Ok(())
 }
