@@ -25,9 +25,11 @@ channels_of network r = slice_index_or network r []
 abbrev pub Name : Type 0
 Name = ℕ × ℕ
 
+-- the name of a request: its tile and its number there
 abbrev pub name_of : Request → Name
 name_of q = (q.source, q.number)
 
+-- whether a request has this name
 abbrev pub is_named : Name → Request → Bool
 is_named name q = (q.source == name.0) && (q.number == name.1)
 
@@ -39,6 +41,7 @@ arriving g r q = record { request = q; owed = ports_of (tree_outs g q.source r) 
 abbrev pub copy_owing : Request → ℕ → Option NetCopy
 copy_owing q owed = if owed == 0 then None else Some (record { request = q; owed = ports_of owed })
 
+-- a copy once it has left by a port, as long as it owes another
 abbrev pub left_by : Port → NetCopy → Option NetCopy
 left_by out copy = copy_owing copy.request (without_port (bits_of copy.owed) out)
 
@@ -82,6 +85,7 @@ local_place_from name port [] = None
 local_place_from name port (slots ∷ ports) =
     option_or (option_map (λ slot. (port, slot)) (position (owes_tile name) slots)) (local_place_from name (suc port) ports)
 
+-- the channel of a router in which a request waits for its tile
 unfoldable pub local_place : Network NetCopy → ℕ → Name → Option (ℕ × ℕ)
 local_place net r name = local_place_from name 0 (channels_of net r)
 

@@ -29,6 +29,7 @@ pub record Owes (g : Grid) (net : Network NetCopy) (name : Name) (tile : ℕ) : 
 abbrev pub ways_owed : Grid → NetCopy → ℕ → ℕ → ℕ
 ways_owed g copy router tile = count_ports (λ out. owes copy out && covers g copy.request.source router tile out)
 
+-- how often the copies of a request owe a tile
 unfoldable pub owing : Grid → Network NetCopy → Name → ℕ → ℕ
 owing g net name tile =
     weigh (λ router port slot copy. if is_named name copy.request then ways_owed g copy router tile else 0) net
@@ -50,9 +51,11 @@ pub record CopiesFit (g : Grid) (net : Network NetCopy) : Type 0 where
 abbrev pub OwesMore : Grid → Request → Network NetCopy → Network NetCopy → Type 0
 OwesMore g q old new = (name : Name) (tile : ℕ) → tile < tiles g → owing g new name tile ≡ owing g old name tile + count_if (is_named name q)
 
+-- a step changes nothing of what each tile is owed
 abbrev pub OwesSame : Grid → Network NetCopy → Network NetCopy → Type 0
 OwesSame g old new = (name : Name) (tile : ℕ) → tile < tiles g → owing g new name tile ≡ owing g old name tile
 
+-- a step serves one request to a tile, and changes nothing else that is owed
 abbrev pub OwesLess : Grid → ℕ → Request → Network NetCopy → Network NetCopy → Type 0
 OwesLess g t q old new = (name : Name) (tile : ℕ) → tile < tiles g → owing g new name tile + count_if (is_named name q && (tile == t)) ≡ owing g old name tile
 
@@ -75,6 +78,7 @@ pub record IsOnTheWay (net : Network NetCopy) (q : Request) : Type 0 where
 abbrev pub NoneComes : Network NetCopy → Network NetCopy → Type 0
 NoneComes old new = (q : Request) → IsOnTheWay new q → IsOnTheWay old q
 
+-- no request but this one comes into the network
 abbrev pub ComesAlone : Request → Network NetCopy → Network NetCopy → Type 0
 ComesAlone come old new = (q : Request) → IsOnTheWay new q → IsOnTheWay old q ⊎ (q ≡ come)
 
@@ -83,6 +87,7 @@ abbrev pub ReservesExpected : Grid → ℕ → ℕ → Port → Option Name → 
 ReservesExpected g reserved r out expected old new = (router port : ℕ) (q : Request) → HasCopyAt new router port reserved q
     → HasCopyAt old router port reserved q ⊎ ((neighbour g r out ≡ Some router) × (expects expected q ≡ true))
 
+-- a step puts nothing into reserved channels
 abbrev pub ReservesNothing : ℕ → Network NetCopy → Network NetCopy → Type 0
 ReservesNothing reserved old new = (router port : ℕ) (q : Request) → HasCopyAt new router port reserved q → HasCopyAt old router port reserved q
 

@@ -106,7 +106,7 @@ abbrev pub is_back : MsgKind → Bool
 is_back Back = true
 is_back Data = false
 
--- whether words to give back to memory stand in the queue
+-- whether words that are written back stand in the queue
 abbrev pub holds_back : List Msg → Bool
 holds_back out = list_any (λ (msg : Msg). is_back msg.kind) out
 
@@ -153,7 +153,7 @@ missed access node =
     if has_room node.chip node.side.cache (line_of access.address) then Some (demand_started access node.side node)
     else room_made access node (without_shared node.chip (line_of access.address) node.side.cache)
 
--- a miss is possible of any line but that one
+-- a miss is possible of any line but the one that is written back
 abbrev pub unless_written_back : Pending → Node → Option Performed → Option Performed
 unless_written_back access node miss = when (not (is_written_back (line_of access.address) node.side.misses.back)) miss
 
