@@ -44,6 +44,6 @@ pub fn broadcast_posts(alloc: Global, document: &Document) -> Result<OrderedNet,
         settle(&mut net);
     }
     // What this tells is true of every ordered network.
-    net.order();
+    net.tiles();
     Ok(net)
 }

@@ -99,6 +99,7 @@ impl OrderedNet {
         ensures limits { (0 < result) × (result ≤ most_tiles) }
         // What is true of an ordered network at any moment.
         ensures fits { NetworkFits self.now.chip self.now.network }
+        ensures one_order { IsOneOrder self.now.chip self.now.network }
         ensures few_left { FewAreLeft self.now.chip self.now.network }
         ensures room { length self.now.network.ordered ≤ self.now.room }
         ensures moves { moves_done self.now.network ≤ most_moves self.now.chip self.now.network }
@@ -125,11 +126,8 @@ impl OrderedNet {
 
     /// The requests that closed windows have ordered, in the order that every interface derives.
     pub fn order(&self) -> &[Request]
-        ensures order { result.now ≡ self.now.network.ordered }
-        ensures one { IsOneOrder self.now.chip self.now.network }
+        ensures { result.now ≡ self.now.network.ordered }
     {
-        // What this tells is true of every ordered network.
-        self.tiles();
         &self.ordered
     }
 

@@ -6,4 +6,4 @@ use Rattle.net_iface.proofs.ordered_net.OrderedNet.delivered_requests.Goals as g
 pub slice_bounds-result-end : goal.slice_bounds-result-end
 slice_bounds-result-end c =
     let few = delivered_few c.args.self.now.chip c.args.self.now.network c.args.t c.tiles.ensures.fits c.requires in
-    rw (c.delivered-count.ensures, c.order.ensures.order) (sym (length-take-le _ c.args.self.now.network.ordered few))
+    rw (c.delivered-count.ensures, c.order.ensures) (sym (length-take-le _ c.args.self.now.network.ordered few))

@@ -2,6 +2,7 @@ use Rattle.net_iface.proofs.InsideParts.{parts}
 use Rattle.net_iface.proofs.Clauses.{network_fits, few_are_left}
 use Rattle.net_iface.proofs.Laws.{room_for_names}
 use Rattle.net_iface.proofs.Moving.{few_moves}
+use Rattle.net_iface.proofs.OneOrders.{one_order}
 use Rattle.net_iface.proofs.ordered_net.OrderedNet.tiles.Goals as goal
 
 pub returns-clause-fits : goal.returns-clause-fits
@@ -9,6 +10,9 @@ returns-clause-fits c =
     let p = parts c.self.inside in
     let fit = rw (← c.self.view_is) at c.closed_count.ensures.fit in
     rw (← c.self.view_is) (network_fits p c.self.invariant.0 c.tiles.ensures.channels fit c.tiles.ensures.fit c.owed_laws.ensures.ahead)
+
+pub returns-clause-one_order : goal.returns-clause-one_order
+returns-clause-one_order c = one_order c.args.self.now.chip c.args.self.now.network (returns-clause-fits c)
 
 pub returns-clause-few_left : goal.returns-clause-few_left
 returns-clause-few_left c =
