@@ -8,44 +8,7 @@ use Rattle.outside_io.proofs.Pieces.{Appends-nothing, Appends-then}
 use Rattle.commands.specs.Entries.{entry_text, entries_text, has_begun, rest_text}
 use Rattle.commands.specs.Line.{line_of}
 
--- a front part of the whole was appended, and this is what is left of it
-pub record Writes (old now : Option (List ℕ)) (whole left : List ℕ) : Type 0 where
-  pub part : List ℕ
-  pub split : whole ≡ part ++ left
-  pub appended : Appends old now part
-
--- nothing yet
-pub Writes-nothing : (held : Option (List ℕ)) (whole : List ℕ) → Writes held held whole whole
-Writes-nothing held whole = record { part = []; split = refl; appended = Appends-nothing held }
-
--- a piece more
-pub Writes-more : (old now after : Option (List ℕ)) (whole piece left : List ℕ) → Writes old now whole (piece ++ left) → Appends now after piece → Writes old after whole left
-Writes-more old now after whole piece left written appended =
-    record {
-      part = written.part ++ piece;
-      split = written.split ∙ sym (append_assoc written.part piece left);
-      appended = Appends-then old now after written.part piece written.appended appended;
-    }
-
--- all of it
-pub Writes-all : (old now : Option (List ℕ)) (whole : List ℕ) → Writes old now whole [] → Appends old now whole
-Writes-all old now whole written = rw (written.split, append-nil written.part) written.appended
-
--- a piece was cut short
-pub Writes-cut : (old now after : Option (List ℕ)) (whole piece left : List ℕ) → Writes old now whole (piece ++ left) → AppendsPart now after piece → AppendsPart old after whole
-Writes-cut old now after whole piece left written cut =
-    record {
-      part = written.part ++ cut.part;
-      rest = cut.rest ++ left;
-      split =
-          written.split ∙ ap (λ (p : List ℕ). written.part ++ (p ++ left)) cut.split
-          ∙ ap (λ (p : List ℕ). written.part ++ p) (append_assoc cut.part cut.rest left) ∙ sym (append_assoc written.part cut.part (cut.rest ++ left));
-      appended = Appends-then old now after written.part cut.part written.appended cut.appended;
-    }
-
--- ---- numbers on a line
-
--- numbers behind others
+-- numbers after others
 pub entries_text-append : (begun : Bool) (xs ys : List ℕ) → entries_text begun (xs ++ ys) ≡ entries_text begun xs ++ entries_text (has_begun begun xs) ys
 entries_text-append begun [] ys = refl
 entries_text-append begun (x ∷ xs) ys =
@@ -73,17 +36,3 @@ line_of-rest (x ∷ xs) = ap (λ (t : List ℕ). t ++ codes "\n") (joined x xs)
 pub begun_stays : (numbers : List ℕ) → has_begun true numbers ≡ true
 begun_stays [] = refl
 begun_stays (x ∷ xs) = refl
-
--- a clause on what a call left, at its error
-pub on_error : {T E : Type 0} (r : Result T E) (P : Type 0) → P → OnErr r P
-on_error (Ok x) P p = tt
-on_error (Err e) P p = p
-
--- a clause on what a call left follows from another
-pub on_ok_more : {T E : Type 0} (r : Result T E) (P Q : Type 0) → (P → Q) → OnOk r P → OnOk r Q
-on_ok_more (Ok x) P Q more p = more p
-on_ok_more (Err e) P Q more p = tt
-
-pub on_error_more : {T E : Type 0} (r : Result T E) (P Q : Type 0) → (P → Q) → OnErr r P → OnErr r Q
-on_error_more (Ok x) P Q more p = tt
-on_error_more (Err e) P Q more p = more p

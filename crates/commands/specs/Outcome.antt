@@ -1,17 +1,10 @@
 -- What a command did, by the way it ended.
 use Rattle.std.specs.Prelude.{◌≡◌, ℕ, List, Option, IfSome, Result, Ok, Err}
-use Rattle.outside_io.specs.Streams.{Rose, Appends, AppendsPart}
+use Rattle.outside_io.specs.Streams.{Stream, Rose, Appends, AppendsPart}
 use Rattle.commands.specs.declared.command.Command.{Command}
 use Rattle.commands.specs.declared.stop.Stop.{Stop}
 use Rattle.commands.specs.declared.stop.Stop.TheVariants.{Usage, Document, ReadFault, WriteFault, NoMemory, TooLong}
 use Rattle.commands.specs.Input.{HasFault, WritesFor, WritesPartFor, IsTooLong}
-
--- a source or a sink before and after: its bytes, where it tells them, and its count of faults
-pub record Stream : Type 0 where
-  pub old : Option (List ℕ)
-  pub new : Option (List ℕ)
-  pub before : ℕ
-  pub now : ℕ
 
 -- of writing a text: all of it, or a prefix after the sink failed, or nothing where out of memory
 abbrev pub Wrote : Stream → List ℕ → Result Unit Stop → Type 0

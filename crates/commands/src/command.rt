@@ -1,4 +1,5 @@
 ghost use Rattle.std.specs.Prelude.{◌≡◌, ◌≢◌, map, IfSome, IfNone};
+ghost use Rattle.outside_io.specs.Streams.{stream};
 ghost use Rattle.doc_text.specs.Doc.{doc_of};
 ghost use Rattle.commands.specs.Texts.{words_of, named, IsTextOf};
 ghost use Rattle.commands.specs.Outcome.{Ran, WroteSome};
@@ -60,8 +61,8 @@ impl Command {
         source: &mut S,
         sink: &mut K,
     ) -> Result<(), Stop>
-        ensures { Ran self (record { old = S.left source.old; new = S.left source.new; before = S.faults source.old; now = S.faults source.new })
-            (record { old = K.held sink.old; new = K.held sink.new; before = K.faults sink.old; now = K.faults sink.new }) result }
+        ensures { Ran self (stream S.left S.faults source.old source.new)
+            (stream K.held K.faults sink.old sink.new) result }
     {
         let bytes = read_all(alloc, source, INPUT_LIMIT)?;
         let document = read_document(alloc, &bytes)?;
@@ -70,7 +71,7 @@ impl Command {
 
     // A text of the command for a description.
     fn write<K: Sink>(self, alloc: Global, document: &Document, sink: &mut K) -> Result<(), Stop>
-        ensures { WroteSome (IsTextOf self (doc_of document.now)) (record { old = K.held sink.old; new = K.held sink.new; before = K.faults sink.old; now = K.faults sink.new }) result }
+        ensures { WroteSome (IsTextOf self (doc_of document.now)) (stream K.held K.faults sink.old sink.new) result }
     {
         match self {
             Command::Order => write_order(alloc, document, sink),

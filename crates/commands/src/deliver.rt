@@ -1,5 +1,5 @@
 ghost use Rattle.std.specs.Prelude.{◌≤◌, OnOk, OnErr};
-ghost use Rattle.outside_io.specs.Streams.{Rose, Appends, AppendsPart};
+ghost use Rattle.outside_io.specs.Streams.{stream, Rose, Appends, AppendsPart};
 ghost use Rattle.doc_text.specs.Doc.{doc_of};
 ghost use Rattle.chip_model.specs.OrderedNetwork.{sources};
 ghost use Rattle.chip_model.specs.Delivery.{delivered_lists};
@@ -27,7 +27,7 @@ pub(crate) fn write_deliveries<K: Sink>(
     document: &Document,
     sink: &mut K,
 ) -> Result<(), Stop>
-    ensures { WroteSome (IsDelivered (doc_of document.now)) (record { old = K.held sink.old; new = K.held sink.new; before = K.faults sink.old; now = K.faults sink.new }) result }
+    ensures { WroteSome (IsDelivered (doc_of document.now)) (stream K.held K.faults sink.old sink.new) result }
 {
     let net = broadcast_posts(alloc, document)?;
     write_lines(sink, &net)?;

@@ -5,7 +5,7 @@ ghost use Rattle.mesh_gen.specs.Limits.{AreTiles, most_tiles};
 ghost use Rattle.mesh_gen.specs.TileSet.{set_of};
 ghost use Rattle.order_tracker.specs.Order.{order_from};
 ghost use Rattle.order_tracker.specs.Tracker.{left_of};
-ghost use Rattle.outside_io.specs.Streams.{Rose, Appends, AppendsPart};
+ghost use Rattle.outside_io.specs.Streams.{stream, Rose, Appends, AppendsPart};
 ghost use Rattle.doc_text.specs.Doc.{doc_of};
 ghost use Rattle.commands.specs.Entries.{entries_text, has_begun, rest_text};
 ghost use Rattle.commands.specs.Line.{line_of, order_text};
@@ -27,7 +27,7 @@ pub(crate) fn write_order<K: Sink>(
     document: &Document,
     sink: &mut K,
 ) -> Result<(), Stop>
-    ensures { Wrote (record { old = K.held sink.old; new = K.held sink.new; before = K.faults sink.old; now = K.faults sink.new }) (order_text (doc_of document.now)) result }
+    ensures { Wrote (stream K.held K.faults sink.old sink.new) (order_text (doc_of document.now)) result }
 {
     let mut latches = Latches::open(alloc, &document.mesh)?;
     let mut tracker = Tracker::open(alloc, &document.mesh)?;

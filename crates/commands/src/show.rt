@@ -1,3 +1,4 @@
+ghost use Rattle.outside_io.specs.Streams.{stream};
 ghost use Rattle.doc_text.specs.Doc.{doc_of};
 ghost use Rattle.commands.specs.Texts.{IsShown};
 ghost use Rattle.commands.specs.Outcome.{WroteSome};
@@ -9,7 +10,7 @@ use outside_io::Sink;
 
 /// Writes the canonical text, which is read back as the description that it shows.
 pub(crate) fn write_shown<K: Sink>(document: &Document, sink: &mut K) -> Result<(), Stop>
-    ensures { WroteSome (IsShown (doc_of document.now)) (record { old = K.held sink.old; new = K.held sink.new; before = K.faults sink.old; now = K.faults sink.new }) result }
+    ensures { WroteSome (IsShown (doc_of document.now)) (stream K.held K.faults sink.old sink.new) result }
 {
     canonical_is_read_back(document);
     write_document(document, sink)?;

@@ -1,4 +1,3 @@
 pub mod ShownWords
 pub mod SomeTiles
-pub mod Writes
 pub mod Pieces

@@ -5,11 +5,11 @@ use Rattle.std.specs.Prelude.{◌≡◌, ℕ, ◌+◌, ◌-◌, ◌^◌, ◌≤�
 abbrev pub Rose : ℕ → ℕ → Type 0
 Rose before now = min (before + 1) (2 ^ 64 - 1) ≤ now
 
--- the bytes held are those from before with these behind them, where they are told
+-- the bytes held are those from before with these after them, where they are told
 abbrev pub Appends : Option (List ℕ) → Option (List ℕ) → List ℕ → Type 0
 Appends old new bytes = new ≡ option_map (λ held. held ++ bytes) old
 
--- the bytes held are those from before with a front part of these behind them
+-- the bytes held are those from before with a prefix of these after them
 pub record AppendsPart (old new : Option (List ℕ)) (bytes : List ℕ) : Type 0 where
   pub part : List ℕ
   pub rest : List ℕ
@@ -20,3 +20,14 @@ pub record AppendsPart (old new : Option (List ℕ)) (bytes : List ℕ) : Type 0
 pub record TakesFront (old new : Option (List ℕ)) : Type 0 where
   pub taken : List ℕ
   pub front : old ≡ option_map (λ rest. taken ++ rest) new
+
+-- what a call did to a source or a sink: its bytes before and after, where it tells them, and its count of faults
+pub record Stream : Type 0 where
+  pub old : Option (List ℕ)
+  pub new : Option (List ℕ)
+  pub before : ℕ
+  pub now : ℕ
+
+-- what was done to a source or a sink that tells these bytes and counts these faults
+abbrev pub stream : {S : Type 0} → (S → Option (List ℕ)) → (S → ℕ) → S → S → Stream
+stream bytes faults old new = record { old = bytes old; new = bytes new; before = faults old; now = faults new }

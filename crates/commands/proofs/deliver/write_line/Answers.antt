@@ -4,7 +4,8 @@ use Rattle.mesh_gen.specs.declared.request.Request.{Request}
 use Rattle.chip_model.specs.OrderedNetwork.{sources}
 use Rattle.commands.specs.Entries.{entry_text, rest_text}
 use Rattle.commands.specs.Deliveries.{label_text, tile_line}
-use Rattle.commands.proofs.Lines.{Writes, Writes-nothing, Writes-more, Writes-cut, on_error, on_error_more}
+use Rattle.std.proofs.lemmas.Result.{on_err_weaker}
+use Rattle.outside_io.proofs.Writes.{Writes, Writes-nothing, Writes-more, Writes-cut, on_error}
 use Rattle.commands.proofs.DeliveryLines.{request_at, next_source}
 use Rattle.commands.proofs.deliver.write_line.Goals as goal
 
@@ -37,4 +38,4 @@ returns-clause-err g c =
     let whole = tile_line c.args.tile (sources c.args.delivered.now) in
     let none = drop_all c.loop-request.request-index c.args.delivered.now (omega arith) in
     let written = subst (λ (rest : List Request). Writes (g.K.Sink.held c.args.sink.now) (g.K.Sink.held c.loop-request.sink) whole (rest_text true (sources rest))) none c.loop-request.invariant.written in
-    on_error_more c.write_piece.result _ _ (λ cut. Writes-cut _ _ _ whole (10 ∷ []) [] written cut) c.write_piece.ensures.err
+    on_err_weaker c.write_piece.result (λ cut. Writes-cut _ _ _ whole (10 ∷ []) [] written cut) c.write_piece.ensures.err

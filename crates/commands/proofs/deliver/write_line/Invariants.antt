@@ -3,7 +3,7 @@ use Rattle.std.proofs.Common.{◌≤◌, true, drop}
 use Rattle.chip_model.specs.OrderedNetwork.{sources}
 use Rattle.commands.specs.Entries.{rest_text}
 use Rattle.commands.specs.Deliveries.{tile_line}
-use Rattle.commands.proofs.Lines.{Writes}
+use Rattle.outside_io.proofs.Writes.{Writes}
 use Rattle.commands.proofs.deliver.write_line.Given as goal
 
 abbrev pub invariant-loop-request : goal.invariant-loop-request

@@ -3,7 +3,7 @@ use Rattle.chip_model.specs.Chip.{tile_count}
 use Rattle.chip_model.specs.OrderedNetwork.{sources}
 use Rattle.chip_model.specs.Delivery.{delivered_lists}
 use Rattle.commands.specs.Deliveries.{tile_line, deliveries_text}
-use Rattle.commands.proofs.Lines.{Writes, Writes-more, Writes-cut, on_error}
+use Rattle.outside_io.proofs.Writes.{Writes, Writes-more, Writes-cut, on_error}
 use Rattle.commands.proofs.DeliveryLines.{next_line}
 use Rattle.commands.proofs.deliver.write_lines.Goals as goal
 

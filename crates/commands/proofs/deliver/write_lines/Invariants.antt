@@ -2,7 +2,7 @@
 use Rattle.std.proofs.Common.{◌≤◌, drop}
 use Rattle.chip_model.specs.Delivery.{delivered_lists}
 use Rattle.commands.specs.Deliveries.{lines_from, deliveries_text}
-use Rattle.commands.proofs.Lines.{Writes}
+use Rattle.outside_io.proofs.Writes.{Writes}
 use Rattle.commands.proofs.deliver.write_lines.Given as goal
 
 abbrev pub invariant-loop-t : goal.invariant-loop-t

@@ -2,7 +2,8 @@ use Rattle.std.proofs.Common.{◌≡◌, length, ◌∙◌, ap, subst, arith}
 use Rattle.order_tracker.specs.Tracker.{left_of}
 use Rattle.commands.specs.Entries.{entry_text, entries_text, has_begun}
 use Rattle.commands.proofs.Following.{heads, count_up}
-use Rattle.commands.proofs.Lines.{Writes, Writes-more, Writes-cut, begun_stays, on_error}
+use Rattle.outside_io.proofs.Writes.{Writes, Writes-more, Writes-cut, on_error}
+use Rattle.commands.proofs.Lines.{begun_stays}
 use Rattle.commands.proofs.order.write_entries.Goals as goal
 
 pub returns-in_err-write_number-clause-err : goal.returns-in_err-write_number-clause-err

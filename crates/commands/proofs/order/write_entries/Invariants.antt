@@ -3,7 +3,7 @@ use Rattle.std.proofs.Common.{◌≡◌, ◌+◌, ◌≤◌, ℕ, length}
 use Rattle.std.specs.Prelude.{slice_index}
 use Rattle.order_tracker.specs.Tracker.{left_of}
 use Rattle.commands.specs.Entries.{entries_text, has_begun}
-use Rattle.commands.proofs.Lines.{Writes}
+use Rattle.outside_io.proofs.Writes.{Writes}
 use Rattle.commands.proofs.order.write_entries.Given as goal
 
 abbrev pub invariant-loop-source : goal.invariant-loop-source

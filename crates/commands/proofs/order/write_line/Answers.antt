@@ -8,7 +8,9 @@ use Rattle.order_tracker.specs.Tracker.{TrackerState, left_of}
 use Rattle.order_tracker.proofs.Turns.{length-expansion-le}
 use Rattle.commands.specs.Entries.{entries_text, rest_text}
 use Rattle.commands.specs.Line.{line_of}
-use Rattle.commands.proofs.Lines.{Writes, Writes-nothing, Writes-more, Writes-all, Writes-cut, line_of-rest, on_error, on_ok_more, on_error_more}
+use Rattle.std.proofs.lemmas.Result.{on_ok_weaker, on_err_weaker}
+use Rattle.outside_io.proofs.Writes.{Writes, Writes-nothing, Writes-more, Writes-all, Writes-cut, on_error}
+use Rattle.commands.proofs.Lines.{line_of-rest}
 use Rattle.commands.proofs.Windows.{left_is_window, step_text, tiles_of_window, some_tile}
 use Rattle.commands.proofs.order.write_line.Goals as goal
 
@@ -86,11 +88,11 @@ returns-clause-ok g c =
     let whole = line_of (order_from c.args.tracker.now.tiles 0 (map set_of c.args.posts.now)) in
     let none = drop_all c.loop-window.window-index c.args.posts.now (omega arith) in
     let written = subst (λ ps. Writes (g.K.Sink.held c.args.sink.now) (g.K.Sink.held c.loop-window.sink) whole (rest_text c.loop-window.begun (order_from c.args.tracker.now.tiles c.loop-window.window-index (map set_of ps)))) none c.loop-window.invariant.written in
-    on_ok_more c.write_piece.result _ _ (λ appended. Writes-all _ _ whole (Writes-more _ _ _ whole (10 ∷ []) [] written appended)) c.write_piece.ensures.ok
+    on_ok_weaker c.write_piece.result (λ appended. Writes-all _ _ whole (Writes-more _ _ _ whole (10 ∷ []) [] written appended)) c.write_piece.ensures.ok
 
 pub returns-clause-err : goal.returns-clause-err
 returns-clause-err g c =
     let whole = line_of (order_from c.args.tracker.now.tiles 0 (map set_of c.args.posts.now)) in
     let none = drop_all c.loop-window.window-index c.args.posts.now (omega arith) in
     let written = subst (λ ps. Writes (g.K.Sink.held c.args.sink.now) (g.K.Sink.held c.loop-window.sink) whole (rest_text c.loop-window.begun (order_from c.args.tracker.now.tiles c.loop-window.window-index (map set_of ps)))) none c.loop-window.invariant.written in
-    on_error_more c.write_piece.result _ _ (λ cut. Writes-cut _ _ _ whole (10 ∷ []) [] written cut) c.write_piece.ensures.err
+    on_err_weaker c.write_piece.result (λ cut. Writes-cut _ _ _ whole (10 ∷ []) [] written cut) c.write_piece.ensures.err

@@ -6,7 +6,7 @@ use Rattle.mesh_gen.specs.TileSet.{set_of}
 use Rattle.order_tracker.specs.Order.{order_from}
 use Rattle.commands.specs.Entries.{rest_text}
 use Rattle.commands.specs.Line.{line_of}
-use Rattle.commands.proofs.Lines.{Writes}
+use Rattle.outside_io.proofs.Writes.{Writes}
 use Rattle.commands.proofs.order.write_line.Given as goal
 
 abbrev pub invariant-loop-window : goal.invariant-loop-window

@@ -5,7 +5,7 @@ use Rattle.core_isa.specs.Printing.{program_text}
 use Rattle.outside_io.specs.Streams.{Appends}
 use Rattle.doc_text.specs.declared.key.Key.TheVariants.{Code}
 use Rattle.doc_text.specs.Canonical.{value_line, code_text}
-use Rattle.doc_text.proofs.Writes.{Writes, Writes-first, Writes-more, Writes-last, Writes-cut, Writes-cut_last, AppendsPart-first, on_error}
+use Rattle.outside_io.proofs.Writes.{Writes, Writes-first, Writes-more, Writes-last, Writes-cut, Writes-cut_last, AppendsPart-first, on_error}
 use Rattle.doc_text.proofs.cores.write_code.Goals as goal
 
 abbrev opening : List ℕ

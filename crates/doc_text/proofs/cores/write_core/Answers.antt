@@ -5,7 +5,7 @@ use Rattle.core_isa.specs.declared.instr.Instr.{Instr}
 use Rattle.outside_io.specs.Streams.{Appends}
 use Rattle.doc_text.specs.declared.key.Key.TheVariants.{Core, Tile}
 use Rattle.doc_text.specs.Canonical.{value_line, tables_line, code_text, core_text}
-use Rattle.doc_text.proofs.Writes.{Writes, Writes-first, Writes-more, Writes-last, Writes-cut, Writes-cut_last, on_error}
+use Rattle.outside_io.proofs.Writes.{Writes, Writes-first, Writes-more, Writes-last, Writes-cut, Writes-cut_last, on_error}
 use Rattle.doc_text.proofs.cores.write_core.Goals as goal
 
 abbrev number_line : ℕ → List ℕ

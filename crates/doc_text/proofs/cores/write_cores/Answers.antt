@@ -1,6 +1,6 @@
 use Rattle.std.proofs.Common.{subst, arith}
 use Rattle.doc_text.specs.Canonical.{core_text, cores_text}
-use Rattle.doc_text.proofs.Writes.{Writes, Writes-more, Writes-cut, on_error}
+use Rattle.outside_io.proofs.Writes.{Writes, Writes-more, Writes-cut, on_error}
 use Rattle.doc_text.proofs.Pieces.{cores_text-drop}
 use Rattle.doc_text.proofs.cores.write_cores.Goals as goal
 

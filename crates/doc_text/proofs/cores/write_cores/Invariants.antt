@@ -1,7 +1,7 @@
 -- What is written and what is left make the whole.
 use Rattle.std.proofs.Common.{◌≤◌, drop}
 use Rattle.doc_text.specs.Canonical.{cores_text}
-use Rattle.doc_text.proofs.Writes.{Writes}
+use Rattle.outside_io.proofs.Writes.{Writes}
 use Rattle.doc_text.proofs.cores.write_cores.Given as goal
 
 abbrev pub invariant-loop-tile : goal.invariant-loop-tile

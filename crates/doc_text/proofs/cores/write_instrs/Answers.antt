@@ -1,7 +1,7 @@
 use Rattle.std.proofs.Common.{get_or, subst, arith}
 use Rattle.core_isa.specs.declared.instr.Instr.TheVariants.{Li}
 use Rattle.core_isa.specs.Printing.{text_of, program_text}
-use Rattle.doc_text.proofs.Writes.{Writes, Writes-more, Writes-cut, on_error}
+use Rattle.outside_io.proofs.Writes.{Writes, Writes-more, Writes-cut, on_error}
 use Rattle.doc_text.proofs.Pieces.{flat_map-drop}
 use Rattle.doc_text.proofs.cores.write_instrs.Goals as goal
 

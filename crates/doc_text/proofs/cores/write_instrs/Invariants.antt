@@ -1,7 +1,7 @@
 -- What is written and what is left make the whole.
 use Rattle.std.proofs.Common.{◌≤◌, drop}
 use Rattle.core_isa.specs.Printing.{program_text}
-use Rattle.doc_text.proofs.Writes.{Writes}
+use Rattle.outside_io.proofs.Writes.{Writes}
 use Rattle.doc_text.proofs.cores.write_instrs.Given as goal
 
 abbrev pub invariant-loop-instr : goal.invariant-loop-instr

@@ -2,7 +2,7 @@ use Rattle.std.proofs.Common.{◌≡◌, ◌++◌, map, codes}
 use Rattle.std.specs.List.{join_with_byte}
 use Rattle.std.proofs.lemmas.Result.{on_err_weaker}
 use Rattle.doc_text.specs.Keys.{row_of}
-use Rattle.doc_text.proofs.Writes.{Writes-first, Writes-cut_last, AppendsPart-first, on_error}
+use Rattle.outside_io.proofs.Writes.{Writes-first, Writes-cut_last, AppendsPart-first, on_error}
 use Rattle.doc_text.proofs.Pieces.{value_line-list}
 use Rattle.doc_text.proofs.line.write_list_line.Goals as goal
 

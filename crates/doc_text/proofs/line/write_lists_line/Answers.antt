@@ -4,7 +4,7 @@ use Rattle.std.proofs.lemmas.List.{drop_all}
 use Rattle.std.proofs.lemmas.Result.{on_err_weaker}
 use Rattle.doc_text.specs.Canonical.{value_line, list_text, numbers_text}
 use Rattle.doc_text.specs.Keys.{row_of}
-use Rattle.doc_text.proofs.Writes.{Writes, Writes-nothing, Writes-more, Writes-cut, Writes-cut_last, on_error}
+use Rattle.outside_io.proofs.Writes.{Writes, Writes-nothing, Writes-more, Writes-cut, Writes-cut_last, on_error}
 use Rattle.doc_text.proofs.Pieces.{joined, values_behind, value_line-lists, drop_item}
 use Rattle.doc_text.proofs.line.write_lists_line.Goals as goal
 

@@ -3,7 +3,7 @@ use Rattle.std.proofs.Common.{◌≤◌, ◌++◌, length, map, codes, drop}
 use denote.Text.{Utf8}
 use denote.Shadow.{shadow}
 use Rattle.doc_text.specs.Canonical.{value_line, list_text, numbers_text}
-use Rattle.doc_text.proofs.Writes.{Writes}
+use Rattle.outside_io.proofs.Writes.{Writes}
 use Rattle.doc_text.proofs.Pieces.{joined, values_behind}
 use Rattle.doc_text.proofs.line.write_lists_line.Given as goal
 

@@ -1,7 +1,7 @@
 use Rattle.std.proofs.Common.{List, ◌∷◌, [], ◌++◌, map, codes, refl, subst, arith}
 use lib.Utf8.{encode}
 use Rattle.std.specs.List.{join_with_byte}
-use Rattle.doc_text.proofs.Writes.{Writes, Writes-nothing, Writes-more, Writes-cut, on_error}
+use Rattle.outside_io.proofs.Writes.{Writes, Writes-nothing, Writes-more, Writes-cut, on_error}
 use Rattle.doc_text.proofs.Pieces.{values_behind, values_behind-comma, drop_item}
 use Rattle.doc_text.proofs.line.write_numbers.Goals as goal
 

@@ -3,7 +3,7 @@ use Rattle.std.proofs.Common.{◌≤◌, length, map, codes, drop, ◌++◌}
 use denote.Text.{Utf8}
 use denote.Shadow.{shadow}
 use Rattle.std.specs.List.{join_with_byte}
-use Rattle.doc_text.proofs.Writes.{Writes}
+use Rattle.outside_io.proofs.Writes.{Writes}
 use Rattle.doc_text.proofs.Pieces.{values_behind}
 use Rattle.doc_text.proofs.line.write_numbers.Given as goal
 

@@ -3,7 +3,7 @@ use Rattle.std.proofs.lemmas.Result.{on_ok_weaker, on_err_weaker}
 use Rattle.outside_io.specs.Streams.{Appends}
 use Rattle.doc_text.specs.Doc.{Doc, doc_of}
 use Rattle.doc_text.specs.Canonical.{posts_text, mesh_text, shown_words, memory_text, cores_text, canonical}
-use Rattle.doc_text.proofs.Writes.{Writes, Writes-first, Writes-more, Writes-last, Writes-cut, Writes-cut_last, AppendsPart-first, on_error}
+use Rattle.outside_io.proofs.Writes.{Writes, Writes-first, Writes-more, Writes-last, Writes-cut, Writes-cut_last, AppendsPart-first, on_error}
 use Rattle.doc_text.proofs.writing.write_document.Goals as goal
 
 -- what is left behind the mesh, and behind the posts

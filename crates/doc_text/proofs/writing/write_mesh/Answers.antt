@@ -4,7 +4,7 @@ use Rattle.outside_io.specs.Streams.{Appends}
 use Rattle.doc_text.specs.declared.key.Key.TheVariants.{Mesh, Controllers}
 use Rattle.doc_text.specs.Doc.{Doc, doc_of}
 use Rattle.doc_text.specs.Canonical.{value_line, table_line, numbers_text, sizes, sizes_text, mesh_text}
-use Rattle.doc_text.proofs.Writes.{Writes, Writes-first, Writes-more, Writes-last, Writes-cut, Writes-cut_last, AppendsPart-first, on_error}
+use Rattle.outside_io.proofs.Writes.{Writes, Writes-first, Writes-more, Writes-last, Writes-cut, Writes-cut_last, AppendsPart-first, on_error}
 use Rattle.doc_text.proofs.writing.write_mesh.Goals as goal
 
 abbrev last_line : Doc → List ℕ

@@ -2,7 +2,7 @@ use Rattle.std.proofs.Common.{◌≡◌, ◌==◌, ℕ, false, List, [], ◌∷�
 use Rattle.std.proofs.lemmas.Result.{on_err_weaker}
 use Rattle.doc_text.specs.declared.key.Key.TheVariants.{Posts}
 use Rattle.doc_text.specs.Canonical.{value_line, list_text, numbers_text, posts_text}
-use Rattle.doc_text.proofs.Writes.{Writes-first, Writes-cut_last, AppendsPart-first, on_error}
+use Rattle.outside_io.proofs.Writes.{Writes-first, Writes-cut_last, AppendsPart-first, on_error}
 use Rattle.doc_text.proofs.writing.write_posts.Goals as goal
 
 abbrev first_line : List (List ℕ) → List ℕ

@@ -3,7 +3,7 @@ use Rattle.std.specs.Prelude.{decimal}
 use Rattle.doc_text.specs.declared.key.Key.{Key}
 use Rattle.doc_text.specs.declared.key.Key.TheVariants.{Mesh}
 use Rattle.doc_text.specs.Canonical.{value_line, sizes_text}
-use Rattle.doc_text.proofs.Writes.{Writes, Writes-more, Writes-cut, on_error}
+use Rattle.outside_io.proofs.Writes.{Writes, Writes-more, Writes-cut, on_error}
 use Rattle.doc_text.proofs.Pieces.{flat_map-drop}
 use Rattle.doc_text.proofs.writing.write_sizes.Goals as goal
 

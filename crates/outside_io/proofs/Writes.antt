@@ -5,7 +5,7 @@ use Rattle.std.proofs.lemmas.List.{append-nil}
 use Rattle.outside_io.specs.Streams.{Appends, AppendsPart}
 use Rattle.outside_io.proofs.Pieces.{Appends-nothing, Appends-then}
 
--- a front part of the whole was appended, and this is what is left of it
+-- a prefix of the whole was appended, and this is what is left of it
 pub record Writes (old now : Option (List ℕ)) (whole left : List ℕ) : Type 0 where
   pub part : List ℕ
   pub split : whole ≡ part ++ left
