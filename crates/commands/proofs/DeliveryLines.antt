@@ -8,7 +8,8 @@ use Rattle.mesh_gen.specs.declared.request.Request.{Request}
 use Rattle.chip_model.specs.Chip.{Chip, tile_count}
 use Rattle.chip_model.specs.OrderedNetwork.{OrderedNetwork, Interface, sources}
 use Rattle.chip_model.specs.Delivery.{sources_delivered, delivered_lists}
-use Rattle.net_iface.specs.OrderedNet.{NetworkFits, delivered_counts}
+use Rattle.chip_model.specs.NetworkFits.{NetworkFits}
+use Rattle.net_iface.specs.OrderedNet.{delivered_counts}
 use Rattle.commands.specs.Entries.{entry_text, entries_text, rest_text}
 use Rattle.commands.specs.Deliveries.{tile_line, lines_from}
 

@@ -19,7 +19,7 @@ use Rattle.chip_model.specs.Windows.{Windows}
 use Rattle.chip_model.specs.Copies.{Name, name_of, is_named, expects}
 use Rattle.chip_model.specs.Bookkeeping.{AreMadeBy}
 use Rattle.chip_model.specs.CopiesOwed.{times_named, OwesMore, OwesSame, OwesLess, HasCopyAt, IsOnTheWay, NoneComes, ComesAlone, ReservesExpected, ReservesNothing}
-use Rattle.net_iface.specs.OrderedNet.{requests_of}
+use Rattle.chip_model.specs.NetworkFits.{requests_of}
 use Rattle.net_iface.specs.Unordered.{list_of, unordered_of, with_last}
 use Rattle.net_iface.specs.Parts.{made_by, IsOrderedUpTo, IsOfMade, IsAccounted}
 use Rattle.net_iface.proofs.Named.{slice_get_grown, slice_get-append_right, AreMadeBy-push, times_named-push, is_named_same}

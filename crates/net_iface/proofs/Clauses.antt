@@ -18,7 +18,8 @@ use Rattle.chip_model.specs.OrderedNetwork.{Interface}
 use Rattle.chip_model.specs.Bookkeeping.{count_by_tile}
 use Rattle.chip_model.specs.NetworkShape.{HasChannels, WindowsFit}
 use Rattle.chip_model.specs.CopiesOwed.{CopiesFit, NoneAhead, owing, times_named, channel_count}
-use Rattle.net_iface.specs.OrderedNet.{InterfaceAgrees, NetworkFits, FewAreLeft, requests_of}
+use Rattle.chip_model.specs.NetworkFits.{InterfaceAgrees, NetworkFits, requests_of}
+use Rattle.net_iface.specs.OrderedNet.{FewAreLeft}
 use Rattle.net_iface.specs.Unordered.{unordered_of}
 use Rattle.net_iface.specs.Parts.{Parts, made_by, interface_of, network_of, AreKept}
 use Rattle.net_iface.proofs.Named.{length-requests_of}

@@ -17,7 +17,7 @@ use Rattle.chip_model.specs.Windows.{Windows, window_closed}
 use Rattle.chip_model.specs.OrderedNetwork.{Interface, sources, lowest_unordered, ordered_by_window}
 use Rattle.chip_model.specs.Bookkeeping.{AreMadeBy, count_by_tile}
 use Rattle.chip_model.specs.CopiesOwed.{times_named}
-use Rattle.net_iface.specs.OrderedNet.{requests_of}
+use Rattle.chip_model.specs.NetworkFits.{requests_of}
 use Rattle.net_iface.specs.Unordered.{list_of, unordered_of, lowest_of, LoseLowest}
 use Rattle.net_iface.specs.Parts.{Parts, made_by, interface_of, interfaces_of, network_of, IsAccounted}
 use Rattle.net_iface.proofs.Named.{slice_get_grown, slice_get-append_right, length-requests_of, requests_of-append, count_by_tile-append}

@@ -14,7 +14,7 @@ use Rattle.chip_model.specs.OrderedNetwork.{Interface, sources, with_interface, 
 use Rattle.chip_model.specs.Bookkeeping.{count_by_tile}
 use Rattle.chip_model.specs.CopiesOwed.{IsOnTheWay, OwesLess, NoneComes, ReservesNothing}
 use Rattle.router_xy.specs.RequestNetwork.{RequestNetwork}
-use Rattle.net_iface.specs.OrderedNet.{requests_of}
+use Rattle.chip_model.specs.NetworkFits.{requests_of}
 use Rattle.net_iface.specs.Unordered.{unordered_of}
 use Rattle.net_iface.specs.Parts.{Parts, made_by, interface_of, interfaces_of, network_of, IsFollowing, AreKept}
 use Rattle.net_iface.specs.Trackers.{MayPass, PassesAt}

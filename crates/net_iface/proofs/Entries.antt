@@ -14,7 +14,7 @@ use Rattle.chip_model.specs.Chip.{tile_count}
 use Rattle.chip_model.specs.Copies.{Name, name_of}
 use Rattle.chip_model.specs.OrderedNetwork.{sources, expected_at, expected_behind}
 use Rattle.chip_model.specs.Bookkeeping.{AreMadeBy, count_by_tile}
-use Rattle.net_iface.specs.OrderedNet.{requests_of}
+use Rattle.chip_model.specs.NetworkFits.{requests_of}
 use Rattle.net_iface.specs.Unordered.{unordered_of}
 use Rattle.net_iface.specs.Parts.{Parts, network_of, IsOrderedUpTo, AreKept}
 use Rattle.net_iface.proofs.Named.{slice_get_grown, number_at}

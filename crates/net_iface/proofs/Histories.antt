@@ -20,7 +20,8 @@ use Rattle.chip_model.specs.OrderedNetwork.{OrderedNetwork, Interface, opening_n
 use Rattle.chip_model.specs.Bookkeeping.{AreMadeBy, count_by_tile}
 use Rattle.chip_model.specs.CopiesOwed.{IsOnTheWay}
 use Rattle.router_xy.specs.CopySteps.{Serves}
-use Rattle.net_iface.specs.OrderedNet.{requests_of, delivered_counts, delivered_by}
+use Rattle.chip_model.specs.NetworkFits.{requests_of}
+use Rattle.net_iface.specs.OrderedNet.{delivered_counts, delivered_by}
 use Rattle.net_iface.specs.OneOrder.{IsOneOrder}
 use Rattle.net_iface.specs.NetworkRuns.{NetworkCall, Inject, Post, Tick, Take, Hop, Eject, History, opening_history, called, history_of, deliveries_at, DeliverPrefixes}
 use Rattle.net_iface.proofs.Binds.{bind_eq, made}

@@ -18,7 +18,7 @@ use Rattle.chip_model.specs.Copies.{Name, name_of, is_named}
 use Rattle.chip_model.specs.OrderedNetwork.{Interface, with_interface, next_request, sources}
 use Rattle.chip_model.specs.CopiesOwed.{owing, OwesMore, ComesAlone, ReservesNothing, channel_count}
 use Rattle.router_xy.specs.RequestNetwork.{RequestNetwork, IsAbsent}
-use Rattle.net_iface.specs.OrderedNet.{requests_of}
+use Rattle.chip_model.specs.NetworkFits.{requests_of}
 use Rattle.net_iface.specs.Unordered.{list_of, unordered_of, with_last}
 use Rattle.net_iface.specs.Parts.{Parts, made_by, interface_of, interfaces_of, network_of, IsAccounted, AreKept}
 use Rattle.net_iface.proofs.Named.{length-requests_of}

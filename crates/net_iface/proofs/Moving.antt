@@ -12,7 +12,7 @@ use Rattle.chip_model.specs.Copies.{hopped, served}
 use Rattle.chip_model.specs.OrderedNetwork.{OrderedNetwork, Interface, with_interface, vector_taken, copy_hopped, delivered_next, expected_at, expected_behind}
 use Rattle.chip_model.specs.CopiesOwed.{channel_count}
 use Rattle.router_xy.specs.RequestNetwork.{arrived}
-use Rattle.net_iface.specs.OrderedNet.{NetworkFits}
+use Rattle.chip_model.specs.NetworkFits.{NetworkFits}
 use Rattle.net_iface.specs.Moves.{moves_done, most_moves}
 use Rattle.net_iface.proofs.Binds.{bind, bind_eq, made}
 

@@ -13,7 +13,7 @@ use Rattle.chip_model.specs.Copies.{Name, name_of, is_named}
 use Rattle.chip_model.specs.OrderedNetwork.{sources}
 use Rattle.chip_model.specs.Bookkeeping.{AreMadeBy, count_by_tile}
 use Rattle.chip_model.specs.CopiesOwed.{times_named}
-use Rattle.net_iface.specs.OrderedNet.{requests_of}
+use Rattle.chip_model.specs.NetworkFits.{requests_of}
 
 -- ---- items of lists
 

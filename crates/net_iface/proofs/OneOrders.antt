@@ -7,7 +7,8 @@ use Rattle.mesh_gen.specs.declared.request.Request.{Request}
 use Rattle.chip_model.specs.Chip.{Chip, tile_count}
 use Rattle.chip_model.specs.OrderedNetwork.{OrderedNetwork, Interface}
 use Rattle.chip_model.specs.Bookkeeping.{AreMadeBy, count_by_tile}
-use Rattle.net_iface.specs.OrderedNet.{NetworkFits, requests_of, delivered_counts}
+use Rattle.chip_model.specs.NetworkFits.{NetworkFits, requests_of}
+use Rattle.net_iface.specs.OrderedNet.{delivered_counts}
 use Rattle.net_iface.specs.OneOrder.{IsOneOrder}
 use Rattle.net_iface.proofs.Named.{AreMadeBy-front}
 use Rattle.net_iface.proofs.Places.{item_at}

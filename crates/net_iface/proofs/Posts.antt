@@ -11,7 +11,7 @@ use Rattle.chip_model.specs.Windows.{Windows, may_post, posted}
 use Rattle.chip_model.specs.OrderedNetwork.{Interface, with_interface, request_posted}
 use Rattle.chip_model.specs.Bookkeeping.{count_by_tile}
 use Rattle.window_core.specs.Windows.{WindowsState}
-use Rattle.net_iface.specs.OrderedNet.{requests_of}
+use Rattle.chip_model.specs.NetworkFits.{requests_of}
 use Rattle.net_iface.specs.Unordered.{unordered_of}
 use Rattle.net_iface.specs.Parts.{Parts, made_by, interface_of, network_of, AreSized}
 use Rattle.net_iface.proofs.Named.{length-requests_of}

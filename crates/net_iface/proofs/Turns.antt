@@ -10,7 +10,7 @@ use Rattle.mesh_gen.specs.declared.request.Request.{Request}
 use Rattle.mesh_gen.specs.TileSet.{has_tile}
 use Rattle.order_tracker.specs.Order.{upwards, round_from, expansion}
 use Rattle.chip_model.specs.OrderedNetwork.{sources}
-use Rattle.net_iface.specs.OrderedNet.{requests_of}
+use Rattle.chip_model.specs.NetworkFits.{requests_of}
 use Rattle.net_iface.specs.Unordered.{lowest_of, LoseLowest}
 use Rattle.net_iface.proofs.Named.{requests_of-append}
 

@@ -17,7 +17,8 @@ use Rattle.chip_model.specs.Bookkeeping.{AreMadeBy, count_by_tile}
 use Rattle.chip_model.specs.CopiesOwed.{owing, times_named, channel_count}
 use Rattle.window_core.specs.Windows.{WindowsState}
 use Rattle.router_xy.specs.RequestNetwork.{RequestNetwork}
-use Rattle.net_iface.specs.OrderedNet.{NetworkState, requests_of}
+use Rattle.chip_model.specs.NetworkFits.{requests_of}
+use Rattle.net_iface.specs.OrderedNet.{NetworkState}
 use Rattle.net_iface.specs.Unordered.{list_of, unordered_of}
 
 -- the chip, its routers and windows; of each tile its tracker, the requests that are not ordered yet, how many requests it

@@ -4,7 +4,8 @@ ghost use Rattle.mesh_gen.specs.Limits.{IsFrom, most_tiles};
 ghost use Rattle.chip_model.specs.Chip.{chip_of_mesh, tile_count};
 ghost use Rattle.chip_model.specs.NetworkShape.{HasChannels, WindowsFit};
 ghost use Rattle.chip_model.specs.OrderedNetwork.{Interface, next_request, injected, request_posted, network_ticked, vector_taken, expected_at, expected_behind, copy_hopped, delivered_next};
-ghost use Rattle.net_iface.specs.OrderedNet.{opening, SameSizes, delivered_counts, delivered_by, NetworkFits, FewAreLeft};
+ghost use Rattle.chip_model.specs.NetworkFits.{NetworkFits};
+ghost use Rattle.net_iface.specs.OrderedNet.{opening, SameSizes, delivered_counts, delivered_by, FewAreLeft};
 ghost use Rattle.net_iface.specs.OneOrder.{IsOneOrder};
 ghost use Rattle.net_iface.specs.Moves.{moves_done, most_moves};
 
