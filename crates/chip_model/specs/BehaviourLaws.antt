@@ -1,13 +1,16 @@
 -- The laws of a behaviour: what a core event, a delivery and data may do to a unit, whatever kind of core it has.
-use Rattle.std.specs.Prelude.{◌≡◌, ◌⊎◌, ℕ, ◌*◌, ◌<◌, ◌≤◌, true, false, ◌||◌, [], ◌∷◌, ◌++◌, Option, Some, None, IfSome}
+use Rattle.std.specs.Prelude.{◌≡◌, ◌⊎◌, ℕ, ◌*◌, ◌<◌, ◌≤◌, Bool, true, false, ◌||◌, List, [], ◌∷◌, ◌++◌, Option, Some, None, IfSome}
 use Rattle.mesh_gen.specs.declared.request.Request.{Request}
 use Rattle.mesh_gen.specs.declared.msg.Msg.{Msg}
+use Rattle.core_isa.specs.declared.instr.Instr.{Instr}
 use Rattle.report_text.specs.declared.access.Access.{Access}
 use Rattle.report_text.specs.Accesses.{writes}
 use Rattle.chip_model.specs.declared.done.Done.{Done}
 use Rattle.chip_model.specs.declared.pending.Pending.{Pending}
-use Rattle.chip_model.specs.Node.{Performed, waits_for_any, holds_back, accessed, request_delivered, message_arrived}
-use Rattle.chip_model.specs.Units.{UnitState, BufferedStore, Acted, Behaviour, access_of}
+use Rattle.chip_model.specs.Chip.{Chip}
+use Rattle.chip_model.specs.Node.{Node, Performed, waits_for_any, holds_back, accessed, request_delivered, message_arrived, request_sent, message_sent}
+use Rattle.chip_model.specs.Units.{UnitState, BufferedStore, Acted, Behaviour, access_of, opening_unit}
+use Rattle.chip_model.specs.NodeShape.{IsCache}
 
 -- the access of instruction number n that a unit's node performed
 abbrev pub numbered : UnitState → Done → ℕ → Access
@@ -73,10 +76,25 @@ pub record Receives (unit : UnitState) (step : Performed) (acted : Acted) : Type
   pub goes_on : GoesOn unit step acted
   pub halted : acted.0.halted ≡ unit.halted
 
+-- each set of a node's cache has ways
+pub record HasWays (node : Node) : Type 0 where
+  pub cache : IsCache node.chip node.side.cache
+  pub sets : 0 < node.chip.sets
+  pub ways : 0 < node.chip.ways
+
+-- a core event works alone, or tries an access
+abbrev pub Works : UnitState → Acted → Type 0
+Works unit acted = WorksAlone unit acted ⊎ TriesAccess unit acted
+
+-- The laws are of the units that such cores come to: a new unit is one, and each step makes one of one.
 pub record KeepsLaws (b : Behaviour) : Type 0 where
-  pub stepped : (unit : UnitState) → b.ready unit ≡ true → WorksAlone unit (b.stepped unit) ⊎ TriesAccess unit (b.stepped unit)
-  pub delivered : (q : Request) (unit : UnitState) → Receives unit (request_delivered q unit.node) (b.delivered q unit)
-  pub received : (msg : Msg) (unit : UnitState) → Receives unit (message_arrived msg unit.node) (b.received msg unit)
+  pub fits : UnitState → Bool
+  pub opened : (chip : Chip) (tile : ℕ) (program : List Instr) (memory : List ℕ) → 0 < chip.lines → fits (opening_unit chip tile program memory) ≡ true
+  pub asked : (unit : UnitState) → fits unit ≡ true → fits (record unit { node = request_sent unit.node }) ≡ true
+  pub sent : (unit : UnitState) → fits unit ≡ true → fits (record unit { node = message_sent unit.node }) ≡ true
+  pub stepped : (unit : UnitState) → fits unit ≡ true → b.ready unit ≡ true → (fits (b.stepped unit).0 ≡ true) × Works unit (b.stepped unit)
+  pub delivered : (q : Request) (unit : UnitState) → fits unit ≡ true → (fits (b.delivered q unit).0 ≡ true) × Receives unit (request_delivered q unit.node) (b.delivered q unit)
+  pub received : (msg : Msg) (unit : UnitState) → fits unit ≡ true → (fits (b.received msg unit).0 ≡ true) × Receives unit (message_arrived msg unit.node) (b.received msg unit)
   pub halted : (unit : UnitState) → unit.halted ≡ true → b.ready unit ≡ false
-  -- a unit that waits waits for a request, for data, or for its queue
-  pub waits : (unit : UnitState) → unit.halted ≡ false → b.ready unit ≡ false → (waits_for_any unit.node || holds_back unit.node.out) ≡ true
+  -- a unit that waits waits for a request, for data, or for its queue; its sets have ways
+  pub waits : (unit : UnitState) → fits unit ≡ true → HasWays unit.node → unit.halted ≡ false → b.ready unit ≡ false → (waits_for_any unit.node || holds_back unit.node.out) ≡ true
