@@ -1,15 +1,13 @@
 -- A window of a broadcast, event by event.
 use Rattle.std.proofs.Common.{◌≡◌, ◌≢◌, ◌⊎◌, ℕ, zero, suc, ◌+◌, ◌-◌, ◌%◌, ◌^◌, ◌<◌, ◌≤◌, Bool, true, false, refl, sym, ◌∙◌, ap, subst, arith, inl, inr, Option, Some, None, List, [], ◌∷◌, ◌++◌, map, length}
-use Rattle.std.specs.Prelude.{unwrap_or, ◌==◌, filter, slice_get, set, bit_or, OnOk, OnErr, IfOk, Result, Ok, Err, nat_lt, if◌then◌else◌}
-use Rattle.std.specs.List.{fold}
+use Rattle.std.specs.Prelude.{unwrap_or, filter, slice_get, set, bit_or, OnOk, OnErr, Result, Ok, Err, nat_lt, if◌then◌else◌}
 use Rattle.std.proofs.Math.Nat.{zero-mod}
-use Rattle.std.proofs.lemmas.Bool.{cases_eq, cases_Bool, eqb-true, eqb-false}
+use Rattle.std.proofs.lemmas.Bool.{eqb-true, eqb-false}
 use Rattle.std.proofs.lemmas.Bool.Decides.{nat_tests}
 use Rattle.std.proofs.lemmas.List.{append-nil}
 use Rattle.std.proofs.lemmas.List.Elements.{filter-append}
 use Rattle.std.proofs.lemmas.List.Sums.{fold-append}
 use Rattle.mesh_gen.specs.declared.kind.Kind.TheVariants.{GetS}
-use Rattle.mesh_gen.specs.declared.request.Request.{Request}
 use Rattle.mesh_gen.specs.TileSet.{has_tile}
 use Rattle.order_tracker.specs.Order.{upwards, expansion}
 use Rattle.report_text.specs.declared.event.Event.{Event}
@@ -18,7 +16,7 @@ use Rattle.chip_model.specs.Partial.{◌>>=◌, when}
 use Rattle.chip_model.specs.Chip.{Chip, tile_count}
 use Rattle.chip_model.specs.Windows.{Windows, ticked, may_post, posted, window_closed, is_last_tick}
 use Rattle.chip_model.specs.Copies.{entered}
-use Rattle.chip_model.specs.OrderedNetwork.{OrderedNetwork, Interface, with_interface, next_request, injected, request_posted, network_ticked, ordered_by_window}
+use Rattle.chip_model.specs.OrderedNetwork.{OrderedNetwork, with_interface, next_request, injected, request_posted, network_ticked, ordered_by_window}
 use Rattle.chip_model.specs.Delivery.{network_step, network_tried, network_swept, ticks, window_events}
 use Rattle.net_iface.specs.OrderedNet.{NetworkState, SameSizes}
 use Rattle.broadcast.specs.Broadcasts.{Begins, TicksFor, WindowPasses}

@@ -1,14 +1,12 @@
 -- Once nothing moves, further passes change nothing: so all lists of passes that settle lead to one network.
-use Rattle.std.proofs.Common.{◌≡◌, ℕ, zero, suc, ◌+◌, ◌-◌, ◌≤◌, refl, sym, ◌∙◌, ap, subst, arith, inl, inr, List, [], ◌∷◌, ◌++◌}
-use Rattle.std.specs.List.{fold}
+use Rattle.std.proofs.Common.{◌≡◌, ℕ, zero, suc, ◌+◌, ◌-◌, ◌≤◌, refl, sym, ◌∙◌, ap, subst, arith, inl, inr, List, [], ◌∷◌}
 use Rattle.std.proofs.lemmas.Bool.{cases_lt}
-use Rattle.std.proofs.lemmas.List.Sums.{fold-append}
 use Rattle.chip_model.specs.Chip.{Chip}
-use Rattle.chip_model.specs.OrderedNetwork.{OrderedNetwork, opening_network}
+use Rattle.chip_model.specs.OrderedNetwork.{OrderedNetwork}
 use Rattle.chip_model.specs.Delivery.{network_swept, request_slots, passes, window_events, IsSettled, Delivers}
 use Rattle.chip_model.specs.Delivery.Delivers.{done, window}
 use Rattle.net_iface.specs.Moves.{most_moves}
-use Rattle.broadcast.specs.Settled.{settled, window_settled}
+use Rattle.broadcast.specs.Settled.{settled}
 
 -- passes through a network in which nothing moves
 passes_still : (chip : Chip) (count : ℕ) (net : OrderedNetwork) → IsSettled chip net → passes chip count net ≡ net

@@ -1,7 +1,7 @@
 -- Events one after another, each where it is possible.
 use Rattle.std.proofs.Common.{◌≡◌, ℕ, zero, suc, ◌+◌, ◌-◌, ◌<◌, ◌≤◌, Bool, true, false, refl, sym, ◌∙◌, ap, subst, arith, Option, Some, None, List, [], ◌∷◌, ◌++◌, map}
 use Rattle.std.specs.Prelude.{unwrap_or, ◌||◌, filter}
-use Rattle.std.specs.List.{flat_map, fold}
+use Rattle.std.specs.List.{flat_map}
 use Rattle.std.specs.Prelude.{slice_get, set, is_ok, OnOk, OnErr, IfOk, Result, Ok, Err, option_map}
 use Rattle.std.proofs.lemmas.List.Sums.{fold-append}
 use Rattle.std.proofs.lemmas.List.{append-nil}
@@ -9,16 +9,16 @@ use Rattle.std.proofs.Math.Nat.{zero-add}
 use Rattle.std.proofs.lemmas.List.Elements.{filter-append}
 use Rattle.std.proofs.lemmas.Grind.{flat_map-append}
 use Rattle.mesh_gen.specs.declared.port.Port.{Port}
-use Rattle.mesh_gen.specs.declared.port.Port.TheVariants.{L, E, W, N, S}
+use Rattle.mesh_gen.specs.declared.port.Port.TheVariants.{L}
 use Rattle.mesh_gen.specs.declared.request.Request.{Request}
 use Rattle.order_tracker.specs.Order.{upwards}
 use Rattle.report_text.specs.declared.event.Event.{Event}
-use Rattle.report_text.specs.declared.event.Event.TheVariants.{Tick, Core, Inject, Post, Take, Eject, Send, Hop, DataHop, DataEject}
+use Rattle.report_text.specs.declared.event.Event.TheVariants.{Core, Inject, Post, Take, Eject, Send, Hop, DataHop, DataEject}
 use Rattle.chip_model.specs.Partial.{◌>>=◌}
 use Rattle.chip_model.specs.Chip.{Chip, tile_count}
 use Rattle.chip_model.specs.Windows.{Windows, taken_by}
 use Rattle.chip_model.specs.Copies.{hopped, served}
-use Rattle.chip_model.specs.OrderedNetwork.{OrderedNetwork, Interface, with_interface, vector_taken, copy_hopped, delivered_next, expected_at, expected_behind}
+use Rattle.chip_model.specs.OrderedNetwork.{OrderedNetwork, with_interface, vector_taken, copy_hopped, delivered_next, expected_at, expected_behind}
 use Rattle.chip_model.specs.Delivery.{network_step, network_tried, network_swept, moves_requests, request_slots, passes}
 use Rattle.chip_model.specs.Schedules.{hops_from, router_hops, reply_events, tile_slots, slots, sides, ports}
 use Rattle.net_iface.specs.OrderedNet.{NetworkState, SameSizes}

@@ -1,10 +1,8 @@
 -- What some events make of an ordered network, each where it is possible.
-use Rattle.std.specs.Prelude.{◌≡◌, ℕ, ◌+◌, ◌<◌, ◌≤◌, Bool, true, false, List, [], ◌∷◌, ◌++◌}
-use Rattle.std.specs.List.{flat_map}
-use Rattle.order_tracker.specs.Order.{upwards}
+use Rattle.std.specs.Prelude.{◌≡◌, ℕ, ◌+◌, ◌<◌, ◌≤◌, Bool, true, false, List, ◌∷◌}
 use Rattle.report_text.specs.declared.event.Event.{Event}
 use Rattle.report_text.specs.declared.event.Event.TheVariants.{Take, Eject}
-use Rattle.chip_model.specs.Chip.{Chip, tile_count}
+use Rattle.chip_model.specs.Chip.{Chip}
 use Rattle.chip_model.specs.Delivery.{network_swept, passes, IsSettled}
 use Rattle.chip_model.specs.Schedules.{router_hops}
 use Rattle.net_iface.specs.OrderedNet.{NetworkState, SameSizes}

@@ -1,5 +1,5 @@
 -- What the interfaces of a network agree on with its order, and what keeps it.
-use Rattle.std.proofs.Common.{◌≡◌, ◌≢◌, ℕ, ◌+◌, ◌^◌, ◌<◌, ◌≤◌, Bool, true, false, cond, ◌==◌, ◌||◌, List, [], ◌∷◌, ◌++◌, length, take, drop, set, map, Option, Some, None, refl, sym, ◌∙◌, ap, subst, inl, inr, arith, append-nil, bit_or, length-append, length-set}
+use Rattle.std.proofs.Common.{◌≡◌, ◌≢◌, ℕ, ◌+◌, ◌^◌, ◌<◌, ◌≤◌, Bool, true, false, cond, ◌==◌, ◌||◌, List, [], ◌∷◌, ◌++◌, length, take, drop, set, Option, Some, refl, sym, ◌∙◌, ap, subst, inl, inr, arith, append-nil, bit_or, length-append, length-set}
 use Rattle.std.specs.Prelude.{slice_get, nat_lt}
 use Rattle.std.proofs.lemmas.Bool.{cases_eq, ltb-true, ne_eqb, eq-eqb}
 use Rattle.std.proofs.lemmas.List.{take-append-drop, take-append-le}

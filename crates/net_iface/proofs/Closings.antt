@@ -14,7 +14,7 @@ use Rattle.order_tracker.specs.Order.{order, expansion, times}
 use Rattle.chip_model.specs.declared.net_copy.NetCopy.{NetCopy}
 use Rattle.chip_model.specs.Chip.{Chip, tile_count}
 use Rattle.chip_model.specs.Windows.{Windows, window_closed}
-use Rattle.chip_model.specs.OrderedNetwork.{Interface, sources, lowest_unordered, ordered_by_window}
+use Rattle.chip_model.specs.OrderedNetwork.{sources, lowest_unordered, ordered_by_window}
 use Rattle.chip_model.specs.Bookkeeping.{AreMadeBy, count_by_tile}
 use Rattle.chip_model.specs.CopiesOwed.{times_named}
 use Rattle.chip_model.specs.NetworkFits.{requests_of}

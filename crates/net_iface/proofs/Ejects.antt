@@ -1,5 +1,5 @@
 -- A tile delivers the request that it expects, which is the next one of the order.
-use Rattle.std.proofs.Common.{◌≡◌, ◌≢◌, ℕ, ◌+◌, ◌^◌, ◌<◌, ◌≤◌, ◌==◌, List, take, set, map, Option, Some, None, refl, sym, ◌∙◌, ap, subst, inl, inr, arith, rules, length-set, length-take}
+use Rattle.std.proofs.Common.{◌≡◌, ◌≢◌, ℕ, ◌+◌, ◌^◌, ◌<◌, ◌≤◌, ◌==◌, List, take, set, map, Option, Some, refl, sym, ◌∙◌, ap, subst, inl, inr, arith, rules, length-set, length-take}
 use Rattle.std.specs.Prelude.{slice_get, slice_index, IfSome, option_and_then}
 use Rattle.std.specs.List.{range_with_len}
 use Rattle.std.proofs.lemmas.Bool.{cases_eq}

@@ -1,7 +1,7 @@
 -- What tiles have delivered, over lists of calls.
-use Rattle.std.proofs.Common.{◌≡◌, ◌≢◌, ℕ, ◌+◌, ◌<◌, ◌≤◌, Bool, true, false, cond, ◌==◌, List, [], ◌∷◌, ◌++◌, length, take, drop, set, map, replicate, Option, Some, None, refl, sym, ◌∙◌, ap, subst, inl, inr, arith, append-nil, length-append, length-set}
-use Rattle.std.specs.Prelude.{slice_get, slice_index, filter, option_map, option_and_then}
-use Rattle.std.proofs.lemmas.Bool.{cases_eq, ne_eqb, eq-eqb, true≢false}
+use Rattle.std.proofs.Common.{◌≡◌, ◌≢◌, ℕ, ◌+◌, ◌<◌, Bool, cond, ◌==◌, List, [], ◌∷◌, ◌++◌, take, drop, map, replicate, Option, Some, refl, sym, ◌∙◌, ap, subst, arith, append-nil, length-set}
+use Rattle.std.specs.Prelude.{slice_get, slice_index, filter, option_map}
+use Rattle.std.proofs.lemmas.Bool.{ne_eqb, eq-eqb}
 use Rattle.std.proofs.lemmas.List.{length-replicate, take_more, take-append-le, map-append, take-append-drop, get_or-replicate}
 use Rattle.std.proofs.lemmas.List.Elements.{filter-append}
 use Rattle.std.proofs.lemmas.Option.{slice_get_within, get_or_from_slice_get, slice_get-map}
@@ -16,20 +16,20 @@ use Rattle.chip_model.specs.declared.net_copy.NetCopy.{NetCopy}
 use Rattle.chip_model.specs.Partial.{◌>>=◌}
 use Rattle.chip_model.specs.Chip.{Chip, tile_count}
 use Rattle.chip_model.specs.Copies.{Name, name_of, served}
-use Rattle.chip_model.specs.OrderedNetwork.{OrderedNetwork, Interface, opening_network, with_interface, expected_at, delivered_next, injected, request_posted, network_ticked, vector_taken, copy_hopped}
+use Rattle.chip_model.specs.OrderedNetwork.{OrderedNetwork, Interface, with_interface, expected_at, delivered_next, injected, request_posted, network_ticked, vector_taken, copy_hopped}
 use Rattle.chip_model.specs.Bookkeeping.{AreMadeBy, count_by_tile}
 use Rattle.chip_model.specs.CopiesOwed.{IsOnTheWay}
 use Rattle.router_xy.specs.CopySteps.{Serves}
 use Rattle.chip_model.specs.NetworkFits.{requests_of}
-use Rattle.net_iface.specs.OrderedNet.{delivered_counts, delivered_by}
+use Rattle.net_iface.specs.OrderedNet.{delivered_counts}
 use Rattle.net_iface.specs.OneOrder.{IsOneOrder}
 use Rattle.net_iface.specs.NetworkRuns.{NetworkCall, Inject, Post, Tick, Take, Hop, Eject, History, opening_history, called, history_of, deliveries_at, DeliverPrefixes}
 use Rattle.net_iface.proofs.Binds.{bind_eq, made}
 use Rattle.net_iface.proofs.Laws.{NothingStands}
 use Rattle.net_iface.proofs.Named.{slice_get_grown, request_at}
-use Rattle.net_iface.proofs.Places.{same_some, item_at, slice_get-set_same}
+use Rattle.net_iface.proofs.Places.{same_some, item_at}
 use Rattle.net_iface.proofs.Entries.{entry_there}
-use Rattle.net_iface.proofs.Accords.{Agrees, IsMade, Accords, DeliversNone, Keeps, EntersAlone, HopsWithNone, one_order_of, other_interface, same_delivered, made_kept, keeps-inject, keeps-post, keeps-take, keeps-hop}
+use Rattle.net_iface.proofs.Accords.{Agrees, Accords, Keeps, EntersAlone, HopsWithNone, one_order_of, other_interface, made_kept, keeps-inject, keeps-post, keeps-take, keeps-hop}
 use Rattle.net_iface.proofs.Ticks.{keeps-tick}
 
 abbrev pub ServesNamed : Type 0

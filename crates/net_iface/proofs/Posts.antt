@@ -3,7 +3,6 @@ use Rattle.std.proofs.Common.{◌≡◌, ◌≢◌, ℕ, ◌+◌, ◌<◌, ◌^�
 use Rattle.std.specs.Prelude.{slice_index, nat_lt, is_some}
 use Rattle.std.specs.List.{range_with_len}
 use Rattle.std.proofs.lemmas.Bool.{cases_lt, and_parts, not-true, lt-ltb, le-ltb, ltb-true, ne_eqb, eq-eqb}
-use Rattle.mesh_gen.specs.declared.request.Request.{Request}
 use Rattle.mesh_gen.specs.TileSet.{has_tile}
 use Rattle.mesh_gen.proofs.TileSets.{has_tile-or, has_tile-one}
 use Rattle.chip_model.specs.Chip.{tile_count}

@@ -1,18 +1,17 @@
 -- The steps of an ordered network where their guards hold and where they do not.
-use Rattle.std.proofs.Common.{◌≡◌, ℕ, ◌+◌, ◌<◌, Bool, true, false, [], ◌∷◌, ◌++◌, length, Option, Some, None, Result, Ok, Err, refl, sym, ◌∙◌, cond, bit_or, ◌^◌}
+use Rattle.std.proofs.Common.{◌≡◌, ℕ, ◌+◌, ◌<◌, Bool, true, false, [], ◌∷◌, ◌++◌, length, Option, Some, None, Result, Ok, Err, refl, ◌∙◌, cond, bit_or, ◌^◌}
 use Rattle.std.specs.Prelude.{slice_get, nat_lt, is_some, OnErr}
 use Rattle.std.proofs.lemmas.Bool.{ltb-true}
-use Rattle.std.proofs.lemmas.Option.{cond_some, some_pair_parts}
+use Rattle.std.proofs.lemmas.Option.{cond_some}
 use Rattle.mesh_gen.specs.declared.request.Request.{Request}
 use Rattle.mesh_gen.specs.declared.kind.Kind.{Kind}
 use Rattle.mesh_gen.specs.declared.port.Port.{Port}
-use Rattle.mesh_gen.specs.declared.port.Port.TheVariants.{L}
 use Rattle.vc_bank.specs.Places.{Network}
 use Rattle.chip_model.specs.declared.net_copy.NetCopy.{NetCopy}
 use Rattle.chip_model.specs.Partial.{when, ◌>>=◌}
 use Rattle.chip_model.specs.Chip.{Chip}
 use Rattle.chip_model.specs.Windows.{Windows, may_post, posted, window_closed, is_last_tick, ticked, closed_by_tick, taken_by}
-use Rattle.chip_model.specs.Copies.{Name, entered, hopped, left_by, local_place, served}
+use Rattle.chip_model.specs.Copies.{Name, entered, hopped, local_place, served}
 use Rattle.window_core.proofs.Steps.{none_from_test, there_too}
 use Rattle.chip_model.specs.OrderedNetwork.{OrderedNetwork, Interface, with_interface, next_request, injected, request_posted, ordered_by_window, network_ticked, vector_taken, expected_at, expected_behind, copy_hopped, delivered_next}
 

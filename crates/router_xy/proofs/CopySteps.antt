@@ -1,19 +1,19 @@
 -- Which requests have copies after a step, whatever the channels are.
-use Rattle.std.proofs.Common.{◌≡◌, ◌≢◌, ◌⊎◌, ℕ, ◌<◌, ◌≤◌, Bool, true, false, refl, sym, ◌∙◌, ap, subst, arith, inl, inr, ⊎_elim, Option, Some, None, List, [], length, set, get_or}
+use Rattle.std.proofs.Common.{◌≡◌, ◌⊎◌, ℕ, Bool, true, false, refl, sym, ◌∙◌, ap, subst, arith, inl, inr, ⊎_elim, Option, Some, None, List, [], length, set, get_or}
 use Rattle.std.specs.Prelude.{is_some}
 use Rattle.std.proofs.lemmas.Bool.{cases_eq, cases_lt}
 use Rattle.std.proofs.lemmas.List.{get_or-set_same, get_or-set_other, get_or_past, length-set}
 use Rattle.mesh_gen.specs.declared.request.Request.{Request}
 use Rattle.mesh_gen.specs.declared.port.Port.{Port}
 use Rattle.mesh_gen.specs.declared.port.Port.TheVariants.{L}
-use Rattle.mesh_gen.specs.Grid.{Grid, tiles, neighbour}
+use Rattle.mesh_gen.specs.Grid.{Grid, neighbour}
 use Rattle.mesh_gen.specs.Ports.{port_number, opposite}
 use Rattle.vc_bank.specs.Channels.{Channels, lowest_free}
 use Rattle.vc_bank.specs.Places.{Network, at, put}
 use Rattle.chip_model.specs.declared.net_copy.NetCopy.{NetCopy}
 use Rattle.chip_model.specs.Partial.{when, ◌>>=◌}
 use Rattle.chip_model.specs.Copies.{Name, name_of, channels_of, no_copies, arriving, left_by, owes, entered, entry_slot, expects, hopped, local_place, served}
-use Rattle.chip_model.specs.CopiesOwed.{HasCopyAt, IsOnTheWay, NoneComes, ComesAlone}
+use Rattle.chip_model.specs.CopiesOwed.{IsOnTheWay, NoneComes, ComesAlone}
 use Rattle.router_xy.specs.CopySteps.{Serves}
 use Rattle.router_xy.proofs.CopyWays.{some_is, left_request, name_is}
 use Rattle.router_xy.proofs.LocalPlaces.{local_stands}

@@ -1,4 +1,4 @@
-use Rattle.std.proofs.Common.{◌≡◌, ◌<◌, ◌*◌, length, get_or, [], sym, ◌∙◌, ap, subst, refl, arith}
+use Rattle.std.proofs.Common.{◌≡◌, ◌<◌, ◌*◌, length, [], sym, ◌∙◌, ap, subst, refl}
 use Rattle.std.proofs.lemmas.List.{get_or_default}
 use Rattle.mesh_gen.specs.TileSet.{set_of}
 use Rattle.chip_model.specs.Chip.{chip_of_mesh, tile_count}
@@ -7,7 +7,7 @@ use Rattle.order_tracker.specs.Order.{expansion}
 use Rattle.net_iface.specs.OrderedNet.{opening}
 use Rattle.broadcast.specs.Broadcasts.{WindowPasses}
 use Rattle.broadcast.specs.Delivered.{HasBroadcast}
-use Rattle.broadcast.proofs.Delivering.{none_yet, one_more_window, room_for_one}
+use Rattle.broadcast.proofs.Delivering.{none_yet, one_more_window}
 use Rattle.broadcast.proofs.delivery.broadcast_posts.Goals as goal
 
 pub loop-window-init : goal.loop-window-init

@@ -1,6 +1,4 @@
-use Rattle.std.proofs.Common.{◌≡◌, sym, ◌∙◌, ap, subst, arith}
-use Rattle.std.specs.List.{flat_map}
-use Rattle.order_tracker.specs.Order.{upwards}
+use Rattle.std.proofs.Common.{◌≡◌, subst, arith}
 use Rattle.chip_model.specs.Chip.{tile_count}
 use Rattle.broadcast.specs.Sweeps.{Sweeps, tile_moves}
 use Rattle.broadcast.proofs.Sweeping.{sweeps_next, request_slots_are}

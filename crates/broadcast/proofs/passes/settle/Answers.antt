@@ -1,4 +1,3 @@
-use Rattle.std.proofs.Common.{◌≡◌, sym, ◌∙◌, ap, subst, arith}
 use Rattle.broadcast.proofs.Sweeping.{no_pass, one_more, settles, fewer_left}
 use Rattle.broadcast.proofs.passes.settle.Goals as goal
 

@@ -1,4 +1,4 @@
-use Rattle.std.proofs.Common.{◌≡◌, sym, ◌∙◌}
+use Rattle.std.proofs.Common.{sym, ◌∙◌}
 use Rattle.report_text.specs.declared.event.Event.TheVariants.{Inject}
 use Rattle.broadcast.proofs.Broadcasting.{inject_begins, begins_with, begins_without}
 use Rattle.broadcast.proofs.window.inject.Goals as goal
