@@ -6,15 +6,15 @@ use Rattle.commands.specs.declared.stop.Stop.{Stop}
 use Rattle.commands.specs.declared.stop.Stop.TheVariants.{Usage, Document, ReadFault, WriteFault, NoMemory, TooLong}
 use Rattle.commands.specs.Input.{HasFault, WritesFor, WritesPartFor, IsTooLong}
 
--- of writing a text: all of it, or a prefix after the sink failed, or nothing where out of memory
+-- of writing a text: all of it, or a prefix after the sink failed, or nothing where there is no memory
 abbrev pub Wrote : Stream → List ℕ → Result Unit Stop → Type 0
 Wrote sink text (Ok done) = Appends sink.old sink.new text
 Wrote sink text (Err WriteFault) = AppendsPart sink.old sink.new text × Rose sink.before sink.now
 Wrote sink text (Err NoMemory) = sink.new ≡ sink.old
 Wrote sink text (Err _) = ⊥
 
--- of writing one of the texts of which this holds: all of it, or a prefix after the sink failed, or nothing where out of
--- memory
+-- of writing one of the texts of which this holds: all of it, or a prefix after the sink failed, or nothing where there is
+-- no memory
 abbrev pub WroteSome : (List ℕ → Type 0) → Stream → Result Unit Stop → Type 0
 WroteSome IsText sink (Ok done) = (text : List ℕ) × IsText text × Appends sink.old sink.new text
 WroteSome IsText sink (Err WriteFault) = ((text : List ℕ) × IsText text × AppendsPart sink.old sink.new text) × Rose sink.before sink.now
