@@ -5,9 +5,9 @@ use Rattle.std.proofs.lemmas.List.{take_more}
 use Rattle.std.proofs.lemmas.List.Sums.{fold-append}
 use Rattle.chip_model.specs.Chip.{Chip, tile_count}
 use Rattle.chip_model.specs.OrderedNetwork.{OrderedNetwork, opening_network}
-use Rattle.chip_model.specs.Delivery.{network_swept, passes, window_events, IsSettled, Delivers, rising}
+use Rattle.chip_model.specs.Delivery.{network_swept, passes, window_events, IsQuiet, Delivers, rising}
 use Rattle.chip_model.specs.Delivery.Delivers.{done, window}
-use Rattle.net_iface.specs.OrderedNet.{NetworkState, opening}
+use Rattle.net_iface.specs.OrderedNet.{NetworkState, opening_state}
 use Rattle.net_iface.specs.Moves.{most_moves}
 use Rattle.broadcast.specs.Sweeps.{Settles}
 use Rattle.broadcast.specs.Settled.{window_settled}
@@ -16,7 +16,7 @@ use Rattle.broadcast.specs.Delivered.{HasBroadcast}
 use Rattle.broadcast.proofs.Settling.{settled_is}
 
 -- one more window at the end
-delivers_more : (chip : Chip) (windows : List (List ℕ)) (tiles : List ℕ) (a b c : OrderedNetwork) (count : ℕ) → Delivers chip windows a b → passes chip count (network_swept chip b (window_events chip tiles)) ≡ c → IsSettled chip c
+delivers_more : (chip : Chip) (windows : List (List ℕ)) (tiles : List ℕ) (a b c : OrderedNetwork) (count : ℕ) → Delivers chip windows a b → passes chip count (network_swept chip b (window_events chip tiles)) ≡ c → IsQuiet chip c
     → Delivers chip (windows ++ tiles ∷ []) a c
 delivers_more chip [] tiles a b c count done passed settled = window count passed settled done
 delivers_more chip (first ∷ rest) tiles a b c count (window n before still later) passed settled = window n before still (delivers_more chip rest tiles _ b c count later passed settled)
@@ -26,7 +26,7 @@ map_append f [] x = refl
 map_append f (y ∷ xs) x = ap (λ (rest : List _). f y ∷ rest) (map_append f xs x)
 
 -- no window yet
-pub none_yet : (chip : Chip) (posts : List (List ℕ)) (room : ℕ) → HasBroadcast chip posts room 0 (opening chip room)
+pub none_yet : (chip : Chip) (posts : List (List ℕ)) (room : ℕ) → HasBroadcast chip posts room 0 (opening_state chip room)
 none_yet chip posts room = record { chip_is = refl; room_is = refl; delivers = done; network = refl; over = refl; few = omega arith }
 
 -- a window, and passes until nothing moves
@@ -66,8 +66,8 @@ one_more_window chip posts room count tiles a b c inside tiles_is before passed 
         let few = settles.few in
         omega arith
 
-    settled : IsSettled chip c.network
-    settled = subst (λ (here : Chip). IsSettled here c.network) chip_is settles.settled
+    settled : IsQuiet chip c.network
+    settled = subst (λ (here : Chip). IsQuiet here c.network) chip_is settles.settled
 
 -- there is room for one more
 pub room_for_one : (tiles windows count ordered : ℕ) → count < windows → ordered ≤ count * tiles → ordered + tiles ≤ windows * tiles

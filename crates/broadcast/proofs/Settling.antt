@@ -3,13 +3,13 @@ use Rattle.std.proofs.Common.{◌≡◌, ℕ, zero, suc, ◌+◌, ◌-◌, ◌�
 use Rattle.std.proofs.lemmas.Bool.{cases_lt}
 use Rattle.chip_model.specs.Chip.{Chip}
 use Rattle.chip_model.specs.OrderedNetwork.{OrderedNetwork}
-use Rattle.chip_model.specs.Delivery.{network_swept, request_slots, passes, window_events, IsSettled, Delivers}
+use Rattle.chip_model.specs.Delivery.{network_swept, request_slots, passes, window_events, IsQuiet, Delivers}
 use Rattle.chip_model.specs.Delivery.Delivers.{done, window}
 use Rattle.net_iface.specs.Moves.{most_moves}
 use Rattle.broadcast.specs.Settled.{settled}
 
 -- passes through a network in which nothing moves
-passes_still : (chip : Chip) (count : ℕ) (net : OrderedNetwork) → IsSettled chip net → passes chip count net ≡ net
+passes_still : (chip : Chip) (count : ℕ) (net : OrderedNetwork) → IsQuiet chip net → passes chip count net ≡ net
 unfolding passes
 passes_still chip zero net still = refl
 passes_still chip (suc count) net still = ap (passes chip count) still ∙ passes_still chip count net still
@@ -22,7 +22,7 @@ passes_join chip (suc first) second net =
     rw next (passes_join chip first second (network_swept chip net (request_slots chip)))
 
 -- more passes than settle a network lead to the same
-pub passes_enough : (chip : Chip) (count most : ℕ) (net last : OrderedNetwork) → passes chip count net ≡ last → IsSettled chip last → count ≤ most → passes chip most net ≡ last
+pub passes_enough : (chip : Chip) (count most : ℕ) (net last : OrderedNetwork) → passes chip count net ≡ last → IsQuiet chip last → count ≤ most → passes chip most net ≡ last
 passes_enough chip count most net last passed still enough =
     let parts : most ≡ count + (most - count) = omega arith in
     ap (λ (n : ℕ). passes chip n net) parts
@@ -30,12 +30,12 @@ passes_enough chip count most net last passed still enough =
     ∙ ap (passes chip (most - count)) passed
     ∙ passes_still chip (most - count) last still
 
-pub settled_is : (chip : Chip) (count : ℕ) (net last : OrderedNetwork) → passes chip count net ≡ last → IsSettled chip last → count ≤ most_moves chip net → settled chip net ≡ last
+pub settled_is : (chip : Chip) (count : ℕ) (net last : OrderedNetwork) → passes chip count net ≡ last → IsQuiet chip last → count ≤ most_moves chip net → settled chip net ≡ last
 unfolding settled
 settled_is chip count net last passed still few = passes_enough chip count (most_moves chip net) net last passed still few
 
 -- so two networks that passes settle are one
-one_settled : (chip : Chip) (m n : ℕ) (net a b : OrderedNetwork) → passes chip m net ≡ a → IsSettled chip a → passes chip n net ≡ b → IsSettled chip b → a ≡ b
+one_settled : (chip : Chip) (m n : ℕ) (net a b : OrderedNetwork) → passes chip m net ≡ a → IsQuiet chip a → passes chip n net ≡ b → IsQuiet chip b → a ≡ b
 one_settled chip m n net a b first still_a second still_b = elim (cases_lt m n) [
   | inl fewer ↦ sym (passes_enough chip m n net a first still_a (omega arith)) ∙ second
   | inr as_many ↦ sym first ∙ passes_enough chip n m net b second still_b as_many

@@ -1,4 +1,4 @@
--- The network in which everything that a description posts has been broadcast, as a function of the description.
+-- The network in which everything that a document posts has been broadcast, as a function of the document.
 use Rattle.std.specs.Prelude.{List, ℕ, map}
 use Rattle.std.specs.List.{fold}
 use Rattle.doc_text.specs.Doc.{Doc}
@@ -19,6 +19,6 @@ window_settled chip net tiles = settled chip (network_swept chip net (window_eve
 abbrev pub windows_settled : Chip → List (List ℕ) → OrderedNetwork
 windows_settled chip windows = fold (window_settled chip) (opening_network chip) windows
 
--- the network of a description's posts
+-- the network of a document's posts
 abbrev pub broadcast_network : Doc → OrderedNetwork
 broadcast_network d = windows_settled (chip_of d) (map (rising (chip_of d)) d.posts)

@@ -3,7 +3,7 @@ use Rattle.std.specs.Prelude.{◌≡◌, ℕ, ◌+◌, ◌<◌, ◌≤◌, Bool,
 use Rattle.report_text.specs.declared.event.Event.{Event}
 use Rattle.report_text.specs.declared.event.Event.TheVariants.{Take, Eject}
 use Rattle.chip_model.specs.Chip.{Chip}
-use Rattle.chip_model.specs.Delivery.{network_swept, passes, IsSettled}
+use Rattle.chip_model.specs.Delivery.{network_swept, passes, IsQuiet}
 use Rattle.chip_model.specs.Schedules.{router_hops}
 use Rattle.net_iface.specs.OrderedNet.{NetworkState, SameSizes}
 use Rattle.net_iface.specs.Moves.{moves_done, most_moves}
@@ -40,4 +40,4 @@ pub record Passes (old new : NetworkState) : Type 0 where
 pub record Settles (old new : NetworkState) : Type 0 where
   pub passes : Passes old new
   pub few : passes.count ≤ most_moves old.chip old.network
-  pub settled : IsSettled new.chip new.network
+  pub settled : IsQuiet new.chip new.network

@@ -1,4 +1,4 @@
-//! The broadcast of all that a description posts.
+//! The broadcast of all that a document posts.
 ghost use Rattle.std.specs.Prelude.{◌≡◌, ◌≤◌, IfOk};
 ghost use Rattle.mesh_gen.specs.Limits.{AreTiles, most_tiles};
 ghost use Rattle.mesh_gen.specs.TileSet.{set_of};
@@ -24,7 +24,7 @@ fn posts_of(tiles: &[u8], count: u8) -> u64
     set_of(tiles)
 }
 
-/// The ordered network in which the requests of a description's posts have been broadcast: window by window each tile that
+/// The ordered network in which the requests of a document's posts have been broadcast: window by window each tile that
 /// posts makes a request, posts it, and the window's ticks pass; then whatever can move on does, until nothing can. All
 /// memory is taken at the start.
 pub fn broadcast_posts(alloc: Global, document: &Document) -> Result<OrderedNet, NoMemory>

@@ -1,4 +1,4 @@
-//! What a description posts, broadcast over the ordered network alone.
+//! What a document posts, broadcast over the ordered network alone.
 #![tactic(auto)]
 
 mod delivery;

@@ -5,14 +5,14 @@ ghost use Rattle.order_tracker.specs.Order.{upwards, expansion};
 ghost use Rattle.report_text.specs.declared.event.Event.TheVariants.{Inject, Post};
 ghost use Rattle.chip_model.specs.Chip.{tile_count};
 ghost use Rattle.chip_model.specs.Delivery.{window_events};
-ghost use Rattle.broadcast.specs.Broadcasts.{Begins, TicksFor, WindowPasses};
+ghost use Rattle.broadcast.specs.Broadcasts.{BeginsWindow, TicksFor, WindowPasses};
 
 use mesh_gen::{Kind, has_tile};
 use net_iface::OrderedNet;
 
 // Each tile of the set makes a request, where its router has a channel for it.
 fn inject(net: &mut OrderedNet, set: u64)
-    ensures { Begins (map Inject (filter (has_tile set) (upwards 0 (tile_count net.old.chip)))) net.old net.new }
+    ensures { BeginsWindow (map Inject (filter (has_tile set) (upwards 0 (tile_count net.old.chip)))) net.old net.new }
 {
     for t in 0..net.tiles() {
         if has_tile(set, t) {
@@ -23,7 +23,7 @@ fn inject(net: &mut OrderedNet, set: u64)
 
 // Each tile of the set posts, where it may.
 fn post(net: &mut OrderedNet, set: u64)
-    ensures { Begins (map Post (filter (has_tile set) (upwards 0 (tile_count net.old.chip)))) net.old net.new }
+    ensures { BeginsWindow (map Post (filter (has_tile set) (upwards 0 (tile_count net.old.chip)))) net.old net.new }
 {
     for t in 0..net.tiles() {
         if has_tile(set, t) {

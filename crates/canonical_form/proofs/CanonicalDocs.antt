@@ -1,4 +1,4 @@
--- The canonical text of a description that keeps every limit is read as that description.
+-- The canonical text of a document that keeps every limit is read as that document.
 use Rattle.std.proofs.Common.{◌≡◌, ℕ, ◌*◌, ◌<◌, ◌≤◌, ◌^◌, List, Result, Ok, ◌∙◌, ap, arith, mul-le-mul}
 use Rattle.std.specs.List.{All, AllByRecursion}
 use Rattle.std.proofs.lemmas.List.Elements.{All-from_recursion}
@@ -56,6 +56,6 @@ pub canonical_read : (doc : Doc) → IsCanonicalDoc doc → reading (canonical d
 unfolding reading
 canonical_read doc is = ap reading_if (canonical-written doc (writable doc is.keeps)) ∙ table_read doc is
 
--- descriptions with one text are equal
+-- documents with one text are equal
 pub canonical_apart : (a b : Doc) → IsCanonicalDoc a → IsCanonicalDoc b → canonical a ≡ canonical b → a ≡ b
 canonical_apart a b is_a is_b same = same_doc (reading (canonical a)) a b (canonical_read a is_a) (ap reading same ∙ canonical_read b is_b)

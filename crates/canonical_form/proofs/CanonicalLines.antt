@@ -37,7 +37,7 @@ mesh_header behind = ((([], (row_of Mesh).name), std_table), empty_line behind +
 abbrev pub sizes_lines : List (Key × ℕ) → List Line
 sizes_lines sizes = map (λ size. number_line size.0 size.1) sizes
 
--- the lines of the mesh, and whether they stand behind others
+-- the lines of the mesh, and whether they stand after others
 abbrev pub mesh_lines : Bool → Doc → List Line
 mesh_lines behind doc = mesh_header behind ∷ (sizes_lines (sizes doc) ++ numbers_line Controllers doc.controllers ∷ [])
 
@@ -111,7 +111,7 @@ front-text doc =
     ∙ ap (λ (t : List ℕ). texts (posts_lines doc.posts) ++ t) (mesh_lines-text (some_posts doc.posts) doc)
     ∙ posts_lines-text doc.posts (mesh_text doc)
 
--- the lines one behind another are the canonical text
+-- the lines one after another are the canonical text
 pub canonical_lines-text : (doc : Doc) → texts (canonical_lines doc) ≡ canonical doc
 canonical_lines-text doc =
     let front = posts_lines doc.posts ++ mesh_lines (some_posts doc.posts) doc in

@@ -7,9 +7,9 @@ use Rattle.doc_text.specs.declared.fault.DocFault.{DocFault}
 use Rattle.doc_text.specs.declared.fault.Place.TheVariants.{Top, Mesh, Core}
 use Rattle.doc_text.specs.declared.key.Key.TheVariants as key
 use Rattle.doc_text.specs.Doc.{Doc}
-use Rattle.mesh_doc.specs.Tables.{Part, listed, value, core_part, mesh_of, cores_of, parts_of}
+use Rattle.mesh_doc.specs.Tables.{Part, listed, value, core_part, table_of_mesh, cores_of, parts_of}
 use Rattle.canonical_form.specs.CanonicalTable.{mesh_entries, core_entries, core_items, canonical_table}
-use Rattle.canonical_form.proofs.LookUps.{mesh_of-whole, core-whole}
+use Rattle.canonical_form.proofs.LookUps.{table_of_mesh-whole, core-whole}
 
 abbrev pub whole_part : Members → Part
 whole_part top = record { place = Top; table = top }
@@ -48,7 +48,7 @@ cores_clear f clear at tile [] = refl
 cores_clear f clear at tile ([] ∷ programs) = cores_clear f clear at (tile + 1) programs
 cores_clear f clear at tile ((instr ∷ instrs) ∷ programs) = rw (clear at tile (instr ∷ instrs)) (cores_clear f clear (at + 1) (tile + 1) programs)
 
-parts_clear : (f : Part → List DocFault) (top mesh : Members) (cores : List Part) → mesh_of top ≡ Some mesh → cores_of top ≡ cores
+parts_clear : (f : Part → List DocFault) (top mesh : Members) (cores : List Part) → table_of_mesh top ≡ Some mesh → cores_of top ≡ cores
     → f (whole_part top) ≡ [] → f (part_of_mesh mesh) ≡ [] → flat_map f cores ≡ [] → flat_map f (parts_of top) ≡ []
 unfolding parts_of
 parts_clear f top mesh cores has_mesh has_cores in_whole in_mesh in_cores = rw (has_mesh, has_cores, in_whole, in_mesh, in_cores) refl
@@ -57,5 +57,5 @@ pub clear_everywhere : (f : Part → List DocFault) (doc : Doc) → f (whole_par
     → ((at tile : ℕ) (program : List Instr) → f (part_of_core at tile program) ≡ []) → flat_map f (parts_of (canonical_table doc)) ≡ []
 clear_everywhere f doc in_whole in_mesh in_core =
     parts_clear f (canonical_table doc) (mesh_entries doc) (placed_cores 0 0 doc.programs)
-    (mesh_of-whole (core_items 0 doc.programs) (mesh_entries doc) doc.posts) (canonical-cores doc)
+    (table_of_mesh-whole (core_items 0 doc.programs) (mesh_entries doc) doc.posts) (canonical-cores doc)
     in_whole in_mesh (cores_clear f in_core 0 0 doc.programs)

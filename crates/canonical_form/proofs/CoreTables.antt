@@ -40,7 +40,7 @@ next_core : (tile : ℕ) (instr : Instr) (instrs : List Instr) (done : Items) (l
 unfolding define along_header along_dots at_key
 next_core tile instr instrs done last rest path more = refl
 
--- the cores behind one
+-- the cores after one
 more_cores : (programs : List (List Instr)) (tile : ℕ) (done : Items) (last rest : Nodes) (path : List (List ℕ))
     → closed (run (node (row_of Core).name (open_array done last) rest, path) (said (cores_lines tile programs)))
     ≡ Some (member (row_of Core).name (array (item_join (push_item done (table (close last))) (core_items tile programs))) (close rest))
@@ -51,7 +51,7 @@ more_cores ((instr ∷ instrs) ∷ programs) tile done last rest path =
     ∙ more_cores programs (tile + 1) (push_item done (table (close last))) (core_nodes tile (instr ∷ instrs)) rest ((row_of Core).name ∷ [])
     ∙ ap (λ (all : Items). Some (member (row_of Core).name (array all) (close rest))) (item_join-push (push_item done (table (close last))) (table (core_entries tile (instr ∷ instrs))) (core_items (tile + 1) programs))
 
--- the lines of all programs, behind those of the mesh
+-- the lines of all programs, after those of the mesh
 pub all_cores : (programs : List (List Instr)) (tile : ℕ) (x : Node) (posts : List (List ℕ)) (path : List (List ℕ))
     → closed (run (node (row_of Mesh).name x (posts_nodes posts), path) (said (cores_lines tile programs)))
     ≡ Some (core_entry (core_items tile programs) (member (row_of Mesh).name (close_node x) (close (posts_nodes posts))))

@@ -6,7 +6,7 @@ use Rattle.core_isa.specs.declared.instr.Instr.{Instr}
 use Rattle.toml.specs.Data.{Members}
 use Rattle.doc_text.specs.Doc.{Doc}
 use Rattle.mesh_doc.specs.Values.{repeated}
-use Rattle.mesh_doc.specs.Faults.{mesh_table, tile_count, controllers, core_tile, core_tiles, controllers_twice, cores_twice}
+use Rattle.mesh_doc.specs.Faults.{mesh_table, tiles_described, controllers, core_tile, core_tiles, controllers_twice, cores_twice}
 use Rattle.mesh_doc.specs.Laws.{KeepsLimits}
 use Rattle.canonical_form.proofs.LookUps.{IsMesh}
 use Rattle.canonical_form.proofs.DistinctNumbers.{none_repeated}
@@ -58,7 +58,7 @@ none_again : (list : List ℕ) → repeated list ≡ [] → cores_twice list ≡
 none_again list none = rw none refl
 
 core_tiles_said : (doc : Doc) (top : Members) → IsWhole doc top → KeepsLimits doc → core_tiles top ≡ placed_tiles 0 doc.programs
-core_tiles_said doc top said limits = rw (said.cores) (tiles_placed (tile_count top) 0 0 doc.programs (omega (arith, limits.programs, count_said doc top said.mesh)))
+core_tiles_said doc top said limits = rw (said.cores) (tiles_placed (tiles_described top) 0 0 doc.programs (omega (arith, limits.programs, count_said doc top said.mesh)))
 
 pub cores_apart : (doc : Doc) (top : Members) → IsWhole doc top → KeepsLimits doc → cores_twice (core_tiles top) ≡ []
 cores_apart doc top said limits =

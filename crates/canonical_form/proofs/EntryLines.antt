@@ -26,7 +26,7 @@ record IsPlainKey (key : List ℕ) : Type 0 where
   bare : key_text key ≡ key
   ascii : list_all is_ascii key ≡ true
 
--- so each key of a description
+-- so each key of a document
 plain_key : (key : Key) → IsPlainKey (row_of key).name
 unfolding key_text
 plain_key Mesh = record { bare = refl; ascii = refl }

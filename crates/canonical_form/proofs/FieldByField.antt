@@ -1,4 +1,4 @@
--- The canonical table says each field of its description.
+-- The canonical table says each field of its document.
 use Rattle.std.proofs.Common.{◌≡◌, ℕ, zero, suc, ◌+◌, ◌*◌, ◌<◌, ◌≤◌, List, [], ◌∷◌, ◌++◌, length, map, refl, sym, ap, ◌∙◌, arith}
 use Rattle.std.specs.List.{AllByRecursion, range_with_len}
 use Rattle.std.proofs.lemmas.Bool.{ne_eqb}
@@ -11,8 +11,8 @@ use Rattle.doc_text.specs.Canonical.{shown_words}
 use Rattle.doc_text.specs.Doc.{Doc}
 use Rattle.doc_text.proofs.ShownWords.{shown_words-padded}
 use Rattle.mesh_doc.specs.Tables.{Part, cores_of}
-use Rattle.mesh_doc.specs.Faults.{tile_count, core_tile}
-use Rattle.mesh_doc.specs.Reading.{image, below, program_in, program_of, document}
+use Rattle.mesh_doc.specs.Faults.{tiles_described, core_tile}
+use Rattle.mesh_doc.specs.Reading.{image, below, program_in, program_of_tile, document}
 use Rattle.mesh_doc.specs.Laws.{KeepsLimits}
 use Rattle.mesh_doc.proofs.Placing.{mapped_more}
 use Rattle.canonical_form.specs.CanonicalDoc.{IsCanonicalDoc}
@@ -25,16 +25,16 @@ use Rattle.canonical_form.proofs.ProgramsAssemble.{program_in-placed}
 
 -- ---- the program of each tile
 
-here : (count : ℕ) (core : Part) (rest : List Part) (t : ℕ) (program : List Instr) → core_tile count core ≡ t → program_in core ≡ program → program_of count (core ∷ rest) t ≡ program
-unfolding program_of
+here : (count : ℕ) (core : Part) (rest : List Part) (t : ℕ) (program : List Instr) → core_tile count core ≡ t → program_in core ≡ program → program_of_tile count (core ∷ rest) t ≡ program
+unfolding program_of_tile
 here count core rest t program tile_is is = rw (tile_is, is) (grind (arith, nat_tests))
 
-elsewhere : (count : ℕ) (core : Part) (rest : List Part) (t u : ℕ) → core_tile count core ≡ t → (t ≡ u → ⊥) → program_of count (core ∷ rest) u ≡ program_of count rest u
-unfolding program_of
+elsewhere : (count : ℕ) (core : Part) (rest : List Part) (t u : ℕ) → core_tile count core ≡ t → (t ≡ u → ⊥) → program_of_tile count (core ∷ rest) u ≡ program_of_tile count rest u
+unfolding program_of_tile
 elsewhere count core rest t u tile_is other = rw (tile_is, ne_eqb t u other) refl
 
-nothing_before : (count at t : ℕ) (programs : List (List Instr)) (u : ℕ) → u < t → t + length programs ≤ count → program_of count (placed_cores at t programs) u ≡ []
-unfolding program_of
+nothing_before : (count at t : ℕ) (programs : List (List Instr)) (u : ℕ) → u < t → t + length programs ≤ count → program_of_tile count (placed_cores at t programs) u ≡ []
+unfolding program_of_tile
 nothing_before count at t [] u before inside = refl
 nothing_before count at t ([] ∷ programs) u before inside = nothing_before count at (t + 1) programs u (omega arith) (omega arith)
 nothing_before count at t ((instr ∷ instrs) ∷ programs) u before inside =
@@ -43,13 +43,13 @@ nothing_before count at t ((instr ∷ instrs) ∷ programs) u before inside =
     ∙ nothing_before count (at + 1) (t + 1) programs u (omega arith) (omega arith)
 
 past : (count : ℕ) (core : Part) (rest : List Part) (t low n : ℕ) → core_tile count core ≡ t → t < low
-    → map (program_of count (core ∷ rest)) (range_with_len low n) ≡ map (program_of count rest) (range_with_len low n)
+    → map (program_of_tile count (core ∷ rest)) (range_with_len low n) ≡ map (program_of_tile count rest) (range_with_len low n)
 past count core rest t low zero tile_is above = refl
 past count core rest t low (suc n) tile_is above =
     rw (elsewhere count core rest t low tile_is (λ same. omega arith), past count core rest t (low + 1) n tile_is (omega arith)) refl
 
 programs_placed : (count at t : ℕ) (programs : List (List Instr)) → t + length programs ≤ count → AllByRecursion IsProgram programs
-    → map (program_of count (placed_cores at t programs)) (range_with_len t (length programs)) ≡ programs
+    → map (program_of_tile count (placed_cores at t programs)) (range_with_len t (length programs)) ≡ programs
 programs_placed count at t [] inside are = refl
 programs_placed count at t ([] ∷ programs) inside are =
     rw (nothing_before count at (t + 1) programs t (omega arith) (omega arith), programs_placed count at (t + 1) programs (omega arith) are.1) refl
@@ -69,10 +69,10 @@ mapped_below {A} f (suc n) =
     let next : n + 1 ≡ suc n = omega arith in
     mapped_more f n ∙ ap (λ (front : List A). front ++ f n ∷ []) (mapped_below f n) ∙ sym (map-range_with_len_more f 0 n n (omega arith)) ∙ ap (λ (k : ℕ). map f (range_with_len 0 k)) next
 
-pub programs_said : (doc : Doc) (top : Members) → IsWhole doc top → IsCanonicalDoc doc → map (program_of (tile_count top) (cores_of top)) (below (tile_count top)) ≡ doc.programs
+pub programs_said : (doc : Doc) (top : Members) → IsWhole doc top → IsCanonicalDoc doc → map (program_of_tile (tiles_described top) (cores_of top)) (below (tiles_described top)) ≡ doc.programs
 programs_said doc top said is =
-    let count : tile_count top ≡ length doc.programs = count_said doc top said.mesh ∙ sym is.keeps.programs in
-    rw (said.cores, count) (mapped_below (program_of (length doc.programs) (placed_cores 0 0 doc.programs)) (length doc.programs)
+    let count : tiles_described top ≡ length doc.programs = count_said doc top said.mesh ∙ sym is.keeps.programs in
+    rw (said.cores, count) (mapped_below (program_of_tile (length doc.programs) (placed_cores 0 0 doc.programs)) (length doc.programs)
     ∙ programs_placed (length doc.programs) 0 0 doc.programs (omega arith) is.programs)
 
 -- ---- the other fields

@@ -12,7 +12,7 @@ use Rattle.doc_text.specs.Canonical.{shown_words}
 use Rattle.doc_text.specs.Doc.{Doc}
 use Rattle.mesh_doc.specs.Tables.{value}
 use Rattle.mesh_doc.specs.Values.{Sizes, sizes_of, is_within, words}
-use Rattle.mesh_doc.specs.Faults.{mesh_table, mesh_sizes, tile_count, range_fault, core_range_fault, out_of_range}
+use Rattle.mesh_doc.specs.Faults.{mesh_table, mesh_sizes, tiles_described, range_fault, core_range_fault, out_of_range}
 use Rattle.mesh_doc.specs.Laws.{KeepsLimits}
 use Rattle.mesh_doc.proofs.Limits.{fits, core_fits}
 use Rattle.mesh_doc.proofs.Ranges.{of_size, of_numbers, of_tiles, nowhere}
@@ -73,7 +73,7 @@ size_fits doc top said limits =
     rw (number_fits sizes mesh Cols 1 most_side doc.cols refl said.cols limits.cols, number_fits sizes mesh Rows 1 most_side doc.rows refl said.rows limits.rows) refl
 
 tiles_fit : (doc : Doc) (top : Members) → IsWhole doc top → KeepsLimits doc → of_tiles top ≡ []
-tiles_fit doc top said limits = rw (said.cores) (cores_fit (tile_count top) 0 0 doc.programs (omega (arith, limits.programs, count_said doc top said.mesh)))
+tiles_fit doc top said limits = rw (said.cores) (cores_fit (tiles_described top) 0 0 doc.programs (omega (arith, limits.programs, count_said doc top said.mesh)))
 
 pub in_range : (doc : Doc) (top : Members) → IsWhole doc top → KeepsLimits doc → out_of_range top ≡ []
 in_range doc top said limits =

@@ -12,7 +12,7 @@ use Rattle.toml.proofs.Turns.{lines_end, lines_more, lines_refused}
 use Rattle.toml.proofs.Blanks.{skip_newline, skip_within}
 use Rattle.toml.proofs.ReadLines.{run}
 
--- what the reader has after the blanks before a line, and that it reads the line there
+-- what the reader has after the spaces before a line, and that it reads the line there
 abbrev pub ReadsLine : Expression → List ℕ → List ℕ → Type 0
 ReadsLine e text rest = (start : List ℕ) × (skip_blank text ≡ start) × (line start ≡ Some (e, 10 ∷ rest)) × (suc (length rest) < length start)
 

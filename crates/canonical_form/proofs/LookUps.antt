@@ -4,7 +4,7 @@ use Rattle.toml.specs.Data.{array, table, Items, no_items, item, Members}
 use Rattle.doc_text.specs.declared.key.Key.TheVariants.{Mesh, Posts, Core, Cols, Rows, Window, Vcs, DataVcs, Lines, Sets, Ways, Controllers, Memory}
 use Rattle.doc_text.specs.Doc.{Doc}
 use Rattle.doc_text.specs.Canonical.{shown_words}
-use Rattle.mesh_doc.specs.Tables.{value, mesh_of}
+use Rattle.mesh_doc.specs.Tables.{value, table_of_mesh}
 use Rattle.mesh_doc.specs.Faults.{mesh_table}
 use Rattle.canonical_form.specs.CanonicalTable.{entry, number, numbers, lists, mesh_showing, mesh_entries, core_entry, posts_entry}
 
@@ -14,9 +14,9 @@ whole cores mesh posts = core_entry cores (entry Mesh (table mesh) (posts_entry 
 
 -- ---- in the whole
 
-pub mesh_of-whole : (cores : Items) (mesh : Members) (posts : List (List ℕ)) → mesh_of (whole cores mesh posts) ≡ Some mesh
-mesh_of-whole no_items mesh posts = refl
-mesh_of-whole (item first more) mesh posts = refl
+pub table_of_mesh-whole : (cores : Items) (mesh : Members) (posts : List (List ℕ)) → table_of_mesh (whole cores mesh posts) ≡ Some mesh
+table_of_mesh-whole no_items mesh posts = refl
+table_of_mesh-whole (item first more) mesh posts = refl
 
 pub mesh_table-whole : (cores : Items) (mesh : Members) (posts : List (List ℕ)) → mesh_table (whole cores mesh posts) ≡ mesh
 mesh_table-whole no_items mesh posts = refl
@@ -72,7 +72,7 @@ memory-mesh : (doc : Doc) (shown : List ℕ) → value Memory (mesh_showing show
 memory-mesh doc [] = refl
 memory-mesh doc (word ∷ words) = refl
 
--- those of a description have the values that it says
+-- those of a document have the values that it says
 pub mesh_entries-are : (doc : Doc) → IsMesh doc (mesh_entries doc)
 mesh_entries-are doc = record {
   cols = refl;

@@ -33,7 +33,7 @@ after_last : (text : List ℕ) → after_element 93 (93 ∷ text) ≡ Some (93 �
 unfolding after_element
 after_last text = rw (skip_none (93 ∷ text) 93 refl refl)
 
--- the reader takes one item, and goes on at what the byte behind it leaves
+-- the reader takes one item, and goes on at what the byte after it leaves
 one_item : (depth m : ℕ) (found : Items) (d : Data) (text after next : List ℕ) → IsValue depth d text → 0 < m → EndsValue after → after_element 93 after ≡ Some next
     → items (val depth) m found (text ++ after) ≡ items (val depth) (m - 1) (push_item found d) next
 one_item depth m found d text after next is some ends element =

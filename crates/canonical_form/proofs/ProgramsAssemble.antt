@@ -8,7 +8,7 @@ use Rattle.core_isa.specs.Printing.{program_text}
 use Rattle.core_isa.proofs.RoundTrip.{round_trip}
 use Rattle.toml.specs.Data.{Members}
 use Rattle.doc_text.specs.Doc.{Doc}
-use Rattle.mesh_doc.specs.Faults.{tile_count, bad_program, bad_programs}
+use Rattle.mesh_doc.specs.Faults.{tiles_described, bad_program, bad_programs}
 use Rattle.mesh_doc.specs.Reading.{program_in}
 use Rattle.canonical_form.proofs.CoreParts.{part_of_core, placed_cores}
 use Rattle.canonical_form.proofs.WholeTable.{IsWhole}
@@ -28,4 +28,4 @@ all_assemble count at t ((instr ∷ instrs) ∷ programs) are =
     rw (assembles count at t (instr ∷ instrs) (round_trip (instr ∷ instrs) are.0)) (all_assemble count (at + 1) (t + 1) programs are.1)
 
 pub programs_assemble : (doc : Doc) (top : Members) → IsWhole doc top → AllByRecursion IsProgram doc.programs → bad_programs top ≡ []
-programs_assemble doc top said are = rw (said.cores) (all_assemble (tile_count top) 0 0 doc.programs are)
+programs_assemble doc top said are = rw (said.cores) (all_assemble (tiles_described top) 0 0 doc.programs are)

@@ -1,4 +1,4 @@
--- The canonical table of a description is read as that description.
+-- The canonical table of a document is read as that document.
 use Rattle.std.proofs.Common.{◌≡◌, [], ◌++◌, Ok, refl}
 use Rattle.toml.specs.Data.{Members}
 use Rattle.doc_text.specs.Doc.{Doc}

@@ -4,7 +4,7 @@ use Rattle.toml.specs.Data.{array, Members}
 use Rattle.doc_text.specs.declared.key.Key.TheVariants.{Posts}
 use Rattle.doc_text.specs.Doc.{Doc}
 use Rattle.mesh_doc.specs.Tables.{value, cores_of}
-use Rattle.mesh_doc.specs.Faults.{mesh_table, tile_count}
+use Rattle.mesh_doc.specs.Faults.{mesh_table, tiles_described}
 use Rattle.canonical_form.specs.CanonicalTable.{lists, core_items, mesh_entries, canonical_table}
 use Rattle.canonical_form.proofs.LookUps.{IsMesh, mesh_table-whole, posts-whole, mesh_entries-are}
 use Rattle.canonical_form.proofs.CoreParts.{placed_cores, canonical-cores}
@@ -22,5 +22,5 @@ canonical-whole doc = record {
   cores = canonical-cores doc;
 }
 
-pub count_said : (doc : Doc) (top : Members) → IsMesh doc (mesh_table top) → tile_count top ≡ doc.cols * doc.rows
+pub count_said : (doc : Doc) (top : Members) → IsMesh doc (mesh_table top) → tiles_described top ≡ doc.cols * doc.rows
 count_said doc top said = rw (said.cols, said.rows)

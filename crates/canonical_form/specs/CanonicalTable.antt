@@ -1,4 +1,4 @@
--- The table that a description's canonical text writes. The members of each table stand in the byte order of their keys.
+-- The table that a document's canonical text writes. The members of each table stand in the byte order of their keys.
 use Rattle.std.specs.Prelude.{ℕ, ◌+◌, pos, List, [], ◌∷◌}
 use Rattle.core_isa.specs.declared.instr.Instr.{Instr}
 use Rattle.core_isa.specs.Printing.{program_text}

@@ -1,4 +1,4 @@
--- The descriptions that a text can hold: the integers of TOML have 64 bits with a sign.
+-- The documents that a text can hold: the integers of TOML have 64 bits with a sign.
 use Rattle.std.specs.Prelude.{ℕ, ◌<◌, ◌^◌, length}
 use Rattle.std.specs.List.{All}
 use Rattle.doc_text.specs.Doc.{Doc}
@@ -7,7 +7,7 @@ use Rattle.doc_text.specs.Doc.{Doc}
 abbrev pub IsWritableNumber : ℕ → Type 0
 IsWritableNumber n = n < 2 ^ 63
 
--- each number of the description is one; the tiles that have a program are numbered by their places
+-- each number of the document is one; the tiles that have a program are numbered by their places
 pub record IsWritable (doc : Doc) : Type 0 where
   pub cols : IsWritableNumber doc.cols
   pub rows : IsWritableNumber doc.rows

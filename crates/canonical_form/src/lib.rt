@@ -1,4 +1,4 @@
-//! The canonical text of a description is read back as the same description.
+//! The canonical text of a document is read back as the same document.
 #![tactic(auto)]
 
 mod laws;

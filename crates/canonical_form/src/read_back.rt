@@ -1,4 +1,4 @@
-//! A description that is kept is read back from its canonical text.
+//! A document that is kept is read back from its canonical text.
 
 ghost use Rattle.std.specs.Prelude.{◌≡◌, Ok};
 ghost use Rattle.std.specs.List.{AllByRecursion};
@@ -12,7 +12,7 @@ ghost use Rattle.canonical_form.specs.CanonicalDoc.{IsCanonicalDoc};
 use core_isa::Program;
 use doc_text::Document;
 
-/// The canonical text of a description that keeps every limit is read as that description, so that no two have one text.
+/// The canonical text of a document that keeps every limit is read as that document, so that no two have one text.
 /// At run time it does nothing.
 pub fn canonical_doc_is_read()
     ensures read { (doc : Doc) → IsCanonicalDoc doc → reading (canonical doc) ≡ Ok doc }
@@ -33,7 +33,7 @@ fn are_words(words: &[u32])
     ensures { AllByRecursion (IsFrom 0 4294967295) words.now }
 {}
 
-/// A description that is kept keeps every limit that its canonical text needs. It passes over the programs, each of which
+/// A document that is kept keeps every limit that its canonical text needs. It passes over the programs, each of which
 /// knows its own limits.
 pub fn document_is_canonical(document: &Document)
     ensures { IsCanonicalDoc (doc_of document.now) }
@@ -43,7 +43,7 @@ pub fn document_is_canonical(document: &Document)
     are_programs(document.programs.as_slice());
 }
 
-/// The canonical text of a description that is kept is read back as the same description. It passes over the programs.
+/// The canonical text of a document that is kept is read back as the same document. It passes over the programs.
 pub fn canonical_is_read_back(document: &Document)
     ensures { reading (canonical (doc_of document.now)) ≡ Ok (doc_of document.now) }
 {

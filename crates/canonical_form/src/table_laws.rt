@@ -6,7 +6,7 @@ ghost use Rattle.mesh_doc.specs.Reading.{reading_of};
 ghost use Rattle.canonical_form.specs.CanonicalTable.{canonical_table};
 ghost use Rattle.canonical_form.specs.CanonicalDoc.{IsCanonicalDoc};
 
-/// The canonical table of a description is read as that description. At run time it does nothing.
+/// The canonical table of a document is read as that document. At run time it does nothing.
 pub fn canonical_table_laws()
     ensures read { (doc : Doc) → IsCanonicalDoc doc → reading_of (canonical_table doc) ≡ Ok doc }
 {}

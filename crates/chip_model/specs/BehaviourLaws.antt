@@ -8,7 +8,7 @@ use Rattle.report_text.specs.Accesses.{writes}
 use Rattle.chip_model.specs.declared.done.Done.{Done}
 use Rattle.chip_model.specs.declared.pending.Pending.{Pending}
 use Rattle.chip_model.specs.Chip.{Chip}
-use Rattle.chip_model.specs.Node.{Node, Performed, waits_for_any, holds_back, accessed, request_delivered, message_arrived, request_sent, message_sent}
+use Rattle.chip_model.specs.Node.{Node, Performed, waits_for_any, holds_back, node_after_access, node_after_request, node_after_message, after_request_sent, after_message_sent}
 use Rattle.chip_model.specs.Units.{UnitState, BufferedStore, Acted, Behaviour, access_of, opening_unit}
 use Rattle.chip_model.specs.NodeShape.{IsCache}
 
@@ -68,7 +68,7 @@ pub record TriesAccess (unit : UnitState) (acted : Acted) : Type 0 where
   pub access : Pending
   pub left : Performed
   pub address : access.address < 4 * unit.node.chip.lines
-  pub tried : accessed access unit.node ≡ Some left
+  pub tried : node_after_access access unit.node ≡ Some left
   pub goes_on : GoesOn unit left acted
 
 -- a delivery or data: the node's step, and the core has not halted by it
@@ -90,11 +90,11 @@ Works unit acted = WorksAlone unit acted ⊎ TriesAccess unit acted
 pub record KeepsLaws (b : Behaviour) : Type 0 where
   pub fits : UnitState → Bool
   pub opened : (chip : Chip) (tile : ℕ) (program : List Instr) (memory : List ℕ) → 0 < chip.lines → fits (opening_unit chip tile program memory) ≡ true
-  pub asked : (unit : UnitState) → fits unit ≡ true → fits (record unit { node = request_sent unit.node }) ≡ true
-  pub sent : (unit : UnitState) → fits unit ≡ true → fits (record unit { node = message_sent unit.node }) ≡ true
+  pub asked : (unit : UnitState) → fits unit ≡ true → fits (record unit { node = after_request_sent unit.node }) ≡ true
+  pub sent : (unit : UnitState) → fits unit ≡ true → fits (record unit { node = after_message_sent unit.node }) ≡ true
   pub stepped : (unit : UnitState) → fits unit ≡ true → b.ready unit ≡ true → (fits (b.stepped unit).0 ≡ true) × Works unit (b.stepped unit)
-  pub delivered : (q : Request) (unit : UnitState) → fits unit ≡ true → (fits (b.delivered q unit).0 ≡ true) × Receives unit (request_delivered q unit.node) (b.delivered q unit)
-  pub received : (msg : Msg) (unit : UnitState) → fits unit ≡ true → (fits (b.received msg unit).0 ≡ true) × Receives unit (message_arrived msg unit.node) (b.received msg unit)
+  pub delivered : (q : Request) (unit : UnitState) → fits unit ≡ true → (fits (b.delivered q unit).0 ≡ true) × Receives unit (node_after_request q unit.node) (b.delivered q unit)
+  pub received : (msg : Msg) (unit : UnitState) → fits unit ≡ true → (fits (b.received msg unit).0 ≡ true) × Receives unit (node_after_message msg unit.node) (b.received msg unit)
   pub halted : (unit : UnitState) → unit.halted ≡ true → b.ready unit ≡ false
   -- a unit that waits waits for a request, for data, or for its queue; its sets have ways
   pub waits : (unit : UnitState) → fits unit ≡ true → HasWays unit.node → unit.halted ≡ false → b.ready unit ≡ false → (waits_for_any unit.node || holds_back unit.node.out) ≡ true

@@ -19,7 +19,7 @@ is_get GetS = true
 is_get GetM = true
 is_get PutM = false
 
--- the requests at the places behind one place and below another
+-- the requests at the places after one place and below another
 abbrev pub between : ℕ → ℕ → List Request → List Request
 between place below requests = drop (place + 1) (take below requests)
 
@@ -44,19 +44,19 @@ abbrev pub puts_among : List Request → List Request
 puts_among requests = filter (λ (q : Request). not (is_get q.kind)) requests
 
 -- the request that a demand has on its way: it is sent, and not ordered here
-abbrev pub get_under_way : Option Demand → List (Kind × ℕ)
-get_under_way None = []
-get_under_way (Some demand) = if demand.sent && is_none demand.ordered then (demand.kind, demand.line) ∷ [] else []
+abbrev pub outstanding_get : Option Demand → List (Kind × ℕ)
+outstanding_get None = []
+outstanding_get (Some demand) = if demand.sent && is_none demand.ordered then (demand.kind, demand.line) ∷ [] else []
 
 -- the request that a write-back has on its way: it is sent
-abbrev pub put_under_way : Option WriteBack → List (Kind × ℕ)
-put_under_way None = []
-put_under_way (Some back) = if back.sent then (PutM, back.line) ∷ [] else []
+abbrev pub outstanding_put : Option WriteBack → List (Kind × ℕ)
+outstanding_put None = []
+outstanding_put (Some back) = if back.sent then (PutM, back.line) ∷ [] else []
 
 -- the requests of a tile that it has not delivered are those that its demand and its write-back have on their way
-pub record IsUnderWay (rest : List Request) (misses : Misses) : Type 0 where
-  pub gets : asked_for (gets_among rest) ≡ get_under_way misses.demand
-  pub puts : asked_for (puts_among rest) ≡ put_under_way misses.back
+pub record IsOutstanding (rest : List Request) (misses : Misses) : Type 0 where
+  pub gets : asked_for (gets_among rest) ≡ outstanding_get misses.demand
+  pub puts : asked_for (puts_among rest) ≡ outstanding_put misses.back
 
 -- a get of a tile
 abbrev pub is_get_of : ℕ → Request → Bool
@@ -80,10 +80,10 @@ pub record TileAgrees (net : OrderedNetwork) (t : ℕ) (interface : Interface) (
   pub tile : node.tile ≡ t
   pub counts : node.delivered ≡ interface.delivered
   pub lines : (n : ℕ) (q : Request) → slice_get interface.made n ≡ Some q → q.line < node.chip.lines
-  pub under_way : IsUnderWay (drop (count_by_tile t (delivered_to net.ordered node)) interface.made) node.side.misses
+  pub under_way : IsOutstanding (drop (count_by_tile t (delivered_to net.ordered node)) interface.made) node.side.misses
   pub demand : (demand : Demand) (place : ℕ) → node.side.misses.demand ≡ Some demand → demand.ordered ≡ Some place → IsOrderedAt net.ordered node demand place
 
--- What the requests delivered behind a demand have made of it.
+-- What the requests delivered after a demand have made of it.
 
 -- other tiles' gets for a line, in their order
 abbrev pub gets_of_others : ℕ → ℕ → List Request → List Request
@@ -99,7 +99,7 @@ up_to_getm (q ∷ rest) = if is_getm q.kind then q ∷ [] else q ∷ up_to_getm 
 abbrev pub waiting_for : List Request → List Waiting
 waiting_for requests = map (λ (q : Request). record { tile = q.source; kind = q.kind }) requests
 
--- behind a load, whether another tile wrote; behind a store, who waits for its words
+-- after a load, whether another tile wrote; after a store, who waits for its words
 pub record IsFollowed (ordered : List Request) (node : Node) (demand : Demand) (place : ℕ) : Type 0 where
   pub once : demand.kind ≡ GetS → demand.once ≡ list_any (λ (q : Request). is_getm q.kind) (gets_of_others node.tile demand.line (between place node.delivered ordered))
   pub list : demand.kind ≡ GetM → demand.list ≡ waiting_for (up_to_getm (gets_of_others node.tile demand.line (between place node.delivered ordered)))

@@ -17,7 +17,7 @@ pub record Chip : Type 0 where
   pub ways : ℕ
   pub controllers : List ℕ
 
--- the chip of a mesh, and that of a description
+-- the chip of a mesh, and that of a document
 abbrev pub chip_of_mesh : Mesh → Chip
 chip_of_mesh mesh = record {
   grid = grid mesh;
@@ -30,7 +30,7 @@ chip_of_mesh mesh = record {
   controllers = mesh.controllers;
 }
 
--- the chip of a description
+-- the chip of a document
 abbrev pub chip_of : Doc → Chip
 chip_of d = record {
   grid = record { cols = d.cols; rows = d.rows };

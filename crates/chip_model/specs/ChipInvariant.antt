@@ -12,11 +12,11 @@ use Rattle.chip_model.specs.ChipState.{ChipState}
 use Rattle.chip_model.specs.Ownership.{OwnsByOrder}
 use Rattle.chip_model.specs.NodeShape.{NodeFits}
 use Rattle.chip_model.specs.Bookkeeping.{TileAgrees, DemandIsFollowed}
-use Rattle.chip_model.specs.Suppliers.{IsSupplied, OneToCome, ComesHome, GetsWait, WaitersAreGets, RecordsAreFresh}
+use Rattle.chip_model.specs.Suppliers.{IsSupplied, OneToCome, ReachesMemory, GetsWait, WaitersAreGets, RecordsAreFresh}
 use Rattle.chip_model.specs.Writers.{IsTimely, WritersFit}
 use Rattle.chip_model.specs.Values.{ValuesHold}
 use Rattle.chip_model.specs.UnitShape.{UnitFits, InOrderHolds}
-use Rattle.chip_model.specs.NetworkShape.{HasChannels, StandsOnRoute, MessageFits}
+use Rattle.chip_model.specs.NetworkShape.{HasChannels, IsOnRoute, MessageFits}
 use Rattle.chip_model.specs.NetworkFits.{NetworkFits, DeliversWhatItTook}
 
 -- the ordered network, and the messages with their channels
@@ -24,7 +24,7 @@ pub record NetworkHolds (d : Doc) (s : ChipState) : Type 0 where
   pub requests : NetworkFits (chip_of d) s.network
   pub took : DeliversWhatItTook (chip_of d) s.network
   pub replies : HasChannels (chip_of d).grid d.data_vcs false s.replies
-  pub routes : StandsOnRoute (chip_of d).grid s.replies
+  pub routes : IsOnRoute (chip_of d).grid s.replies
   pub messages : (router port slot : ℕ) (msg : Msg) → at s.replies router port slot ≡ Some msg → MessageFits (chip_of d) msg
 
 -- a node by itself and with its interface
@@ -56,7 +56,7 @@ pub record ProtocolHolds (d : Doc) (s : ChipState) : Type 0 where
   pub network : NetworkHolds d s
   pub tiles : (t : ℕ) (interface : Interface) (unit : UnitState) →
       slice_get s.network.interfaces t ≡ Some interface → slice_get s.units t ≡ Some unit → UnitHolds d s t interface unit
-  pub backs : (line : ℕ) → ComesHome s line
+  pub backs : (line : ℕ) → ReachesMemory s line
   pub wait : (line : ℕ) → GetsWait s line
   pub performers : (place : ℕ) (a : Access) → slice_get s.accesses place ≡ Some a → a.tile < tile_count (chip_of d)
   pub timely : IsTimely s

@@ -25,7 +25,7 @@ pub record ChipState : Type 0 where
   pub journal : List Event
   pub hops : ℕ
 
--- a tile's program, and the empty one where the description has none
+-- a tile's program, and the empty one where the document has none
 abbrev pub program_of : Doc → ℕ → List Instr
 program_of d tile = slice_index_or d.programs tile []
 

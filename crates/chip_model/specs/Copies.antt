@@ -50,8 +50,8 @@ abbrev pub owes : NetCopy → Port → Bool
 owes copy out = has (bits_of copy.owed) out
 
 -- a request enters the lowest free channel of its own router's local port
-unfoldable pub entered : Grid → Network NetCopy → Request → Option (Network NetCopy)
-entered g net q =
+unfoldable pub after_entry : Grid → Network NetCopy → Request → Option (Network NetCopy)
+after_entry g net q =
     lowest_free (channels_of net q.source) (port_number L) >>= (λ slot.
     Some (put net q.source (port_number L) slot (Some (arriving g q.source q))))
 
@@ -67,8 +67,8 @@ expects None q = false
 expects (Some name) q = is_named name q
 
 -- a copy leaves by a side and comes to the neighbour there, which expects this request next
-unfoldable pub hopped : Grid → Network NetCopy → ℕ → Port → ℕ → Port → Option Name → Option (Network NetCopy)
-hopped g net r port slot out expected =
+unfoldable pub after_hop : Grid → Network NetCopy → ℕ → Port → ℕ → Port → Option Name → Option (Network NetCopy)
+after_hop g net r port slot out expected =
     at net r (port_number port) slot >>= (λ copy. when (owes copy out) (
     neighbour g r out >>= (λ to.
     entry_slot (channels_of net to) (opposite out) (expects expected copy.request) >>= (λ entry.
@@ -90,8 +90,8 @@ unfoldable pub local_place : Network NetCopy → ℕ → Name → Option (ℕ ×
 local_place net r name = local_place_from name 0 (channels_of net r)
 
 -- the request that is served to the router's own tile from that channel, and the copies then
-unfoldable pub served : Network NetCopy → ℕ → Name → Option (Request × Network NetCopy)
-served net r name =
+unfoldable pub after_serve : Network NetCopy → ℕ → Name → Option (Request × Network NetCopy)
+after_serve net r name =
     local_place net r name >>= (λ place.
     at net r place.0 place.1 >>= (λ copy.
     Some (copy.request, put net r place.0 place.1 (left_by L copy))))

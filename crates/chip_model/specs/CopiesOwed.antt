@@ -26,16 +26,16 @@ pub record Owes (g : Grid) (net : Network NetCopy) (name : Name) (tile : ℕ) : 
   pub leads : Leads g copy.request.source router out tile
 
 -- by how many ports the copies of a request owe a tile
-abbrev pub ways_owed : Grid → NetCopy → ℕ → ℕ → ℕ
-ways_owed g copy router tile = count_ports (λ out. owes copy out && covers g copy.request.source router tile out)
+abbrev pub outputs_owed : Grid → NetCopy → ℕ → ℕ → ℕ
+outputs_owed g copy router tile = count_ports (λ out. owes copy out && covers g copy.request.source router tile out)
 
 -- how often the copies of a request owe a tile
 unfoldable pub owing : Grid → Network NetCopy → Name → ℕ → ℕ
 owing g net name tile =
-    weigh (λ router port slot copy. if is_named name copy.request then ways_owed g copy router tile else 0) net
+    weigh (λ router port slot copy. if is_named name copy.request then outputs_owed g copy router tile else 0) net
 
 -- a copy stands on its source's tree: it owes ports of the tree alone, and at least one
-pub record StandsOnTree (g : Grid) (router : ℕ) (copy : NetCopy) : Type 0 where
+pub record IsOnTree (g : Grid) (router : ℕ) (copy : NetCopy) : Type 0 where
   pub source : copy.request.source < tiles g
   pub inside : router < tiles g
   pub ports : bits_of copy.owed < 32
@@ -43,7 +43,7 @@ pub record StandsOnTree (g : Grid) (router : ℕ) (copy : NetCopy) : Type 0 wher
   pub some : (out : Port) × (owes copy out ≡ true)
 
 pub record CopiesFit (g : Grid) (net : Network NetCopy) : Type 0 where
-  pub stand : (router port slot : ℕ) (copy : NetCopy) → at net router port slot ≡ Some copy → StandsOnTree g router copy
+  pub stand : (router port slot : ℕ) (copy : NetCopy) → at net router port slot ≡ Some copy → IsOnTree g router copy
   pub once : (name : Name) (tile : ℕ) → owing g net name tile ≤ 1
 
 -- What the steps of the copies do to what tiles are owed: a request that enters is owed to every tile once more, a hop
@@ -68,7 +68,7 @@ pub record HasCopyAt (net : Network NetCopy) (router port slot : ℕ) (q : Reque
   pub is : copy.request ≡ q
 
 -- a copy of the request stands somewhere
-pub record IsOnTheWay (net : Network NetCopy) (q : Request) : Type 0 where
+pub record HasCopies (net : Network NetCopy) (q : Request) : Type 0 where
   pub router : ℕ
   pub port : ℕ
   pub slot : ℕ
@@ -76,13 +76,13 @@ pub record IsOnTheWay (net : Network NetCopy) (q : Request) : Type 0 where
 
 -- a step brings in no request, or this one alone
 abbrev pub NoneComes : Network NetCopy → Network NetCopy → Type 0
-NoneComes old new = (q : Request) → IsOnTheWay new q → IsOnTheWay old q
+NoneComes old new = (q : Request) → HasCopies new q → HasCopies old q
 
 -- no request but this one comes into the network
 abbrev pub ComesAlone : Request → Network NetCopy → Network NetCopy → Type 0
-ComesAlone come old new = (q : Request) → IsOnTheWay new q → IsOnTheWay old q ⊎ (q ≡ come)
+ComesAlone come old new = (q : Request) → HasCopies new q → HasCopies old q ⊎ (q ≡ come)
 
--- a step puts into reserved channels, which have this number, nothing but requests that the router behind a side expects
+-- a step puts into reserved channels, which have this number, nothing but requests that the router after a side expects
 abbrev pub ReservesExpected : Grid → ℕ → ℕ → Port → Option Name → Network NetCopy → Network NetCopy → Type 0
 ReservesExpected g reserved r out expected old new = (router port : ℕ) (q : Request) → HasCopyAt new router port reserved q
     → HasCopyAt old router port reserved q ⊎ ((neighbour g r out ≡ Some router) × (expects expected q ≡ true))

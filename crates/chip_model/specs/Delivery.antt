@@ -1,4 +1,4 @@
--- The broadcast of the requests of a description's posts over the ordered network alone, until nothing moves.
+-- The broadcast of the requests of a document's posts over the ordered network alone, until nothing moves.
 use Rattle.std.specs.Prelude.{◌≡◌, ℕ, suc, zero, List, [], ◌∷◌, ◌++◌, map, take, filter, Option, None, unwrap_or, Bool, true, false, option_map}
 use Rattle.std.specs.List.{fold}
 use Rattle.mesh_gen.specs.declared.kind.Kind.TheVariants.{GetS}
@@ -8,18 +8,18 @@ use Rattle.report_text.specs.declared.event.Event.{Event}
 use Rattle.report_text.specs.declared.event.Event.TheVariants.{Tick, Core, Inject, Post, Take, Eject, Send, Hop, DataHop, DataEject}
 use Rattle.doc_text.specs.Doc.{Doc}
 use Rattle.chip_model.specs.Chip.{Chip, chip_of, tile_count}
-use Rattle.chip_model.specs.OrderedNetwork.{OrderedNetwork, Interface, opening_network, sources, injected, request_posted, network_ticked, vector_taken, copy_hopped, delivered_next}
+use Rattle.chip_model.specs.OrderedNetwork.{OrderedNetwork, Interface, opening_network, sources, after_inject, after_request_post, after_network_tick, after_vector_take, after_copy_hop, after_delivery}
 use Rattle.chip_model.specs.Schedules.{slots}
 
 -- what an event does to the network alone, where each request is a GetS of line 0; none where it is not possible, or is
 -- no event of the network
 unfoldable pub network_step : Chip → OrderedNetwork → Event → Option OrderedNetwork
-network_step chip net (Inject t) = injected chip net t GetS 0
-network_step chip net (Post t) = request_posted net t
-network_step chip net Tick = network_ticked chip net
-network_step chip net (Take t) = vector_taken net t
-network_step chip net (Hop router port slot out) = copy_hopped chip net router port slot out
-network_step chip net (Eject t) = option_map (λ out. out.1) (delivered_next chip net t)
+network_step chip net (Inject t) = after_inject chip net t GetS 0
+network_step chip net (Post t) = after_request_post net t
+network_step chip net Tick = after_network_tick chip net
+network_step chip net (Take t) = after_vector_take net t
+network_step chip net (Hop router port slot out) = after_copy_hop chip net router port slot out
+network_step chip net (Eject t) = option_map (λ out. out.1) (after_delivery chip net t)
 network_step chip net (Core t) = None
 network_step chip net (Send t) = None
 network_step chip net (DataHop router port slot) = None
@@ -64,21 +64,21 @@ abbrev pub window_events : Chip → List ℕ → List Event
 window_events chip tiles = map Inject tiles ++ map Post tiles ++ ticks chip.window
 
 -- a pass would do nothing
-abbrev pub IsSettled : Chip → OrderedNetwork → Type 0
-IsSettled chip net = network_swept chip net (request_slots chip) ≡ net
+abbrev pub IsQuiet : Chip → OrderedNetwork → Type 0
+IsQuiet chip net = network_swept chip net (request_slots chip) ≡ net
 
--- window after window, with passes behind each until nothing moves: `tiles` are the tiles of a window in rising order
+-- window after window, with passes after each until nothing moves: `tiles` are the tiles of a window in rising order
 pub data Delivers (chip : Chip) : List (List ℕ) → OrderedNetwork → OrderedNetwork → Type 0 where
   done : {net : OrderedNetwork} → Delivers chip [] net net
   window : {tiles : List ℕ} {rest : List (List ℕ)} {net settled last : OrderedNetwork} (count : ℕ)
-      → passes chip count (network_swept chip net (window_events chip tiles)) ≡ settled → IsSettled chip settled
+      → passes chip count (network_swept chip net (window_events chip tiles)) ≡ settled → IsQuiet chip settled
       → Delivers chip rest settled last → Delivers chip (tiles ∷ rest) net last
 
 -- the tiles of a window in rising order
 abbrev pub rising : Chip → List ℕ → List ℕ
 rising chip tiles = expansion (tile_count chip) 0 (set_of tiles)
 
--- the network in which everything that a description posts has been broadcast
+-- the network in which everything that a document posts has been broadcast
 abbrev pub DeliversPosts : Doc → OrderedNetwork → Type 0
 DeliversPosts d net = let chip = chip_of d in Delivers chip (map (rising chip) d.posts) (opening_network chip) net
 

@@ -5,10 +5,10 @@ use Rattle.report_text.specs.declared.access.Access.{Access}
 use Rattle.report_text.specs.declared.event.Event.{Event}
 use Rattle.report_text.specs.declared.event.Event.TheVariants.{Tick, Core, Inject, Post, Take, Eject, Send, Hop, DataHop, DataEject}
 use Rattle.chip_model.specs.Chip.{Chip}
-use Rattle.chip_model.specs.OrderedNetwork.{OrderedNetwork, injected, request_posted, network_ticked, vector_taken, copy_hopped, delivered_next}
-use Rattle.chip_model.specs.Replies.{sent, forwarded, received}
+use Rattle.chip_model.specs.OrderedNetwork.{OrderedNetwork, after_inject, after_request_post, after_network_tick, after_vector_take, after_copy_hop, after_delivery}
+use Rattle.chip_model.specs.Replies.{after_send, after_data_hop, after_data_eject}
 use Rattle.chip_model.specs.Misses.{wanted}
-use Rattle.chip_model.specs.Node.{Node, request_sent, message_sent}
+use Rattle.chip_model.specs.Node.{Node, after_request_sent, after_message_sent}
 use Rattle.chip_model.specs.Units.{UnitState, Acted, Behaviour}
 use Rattle.chip_model.specs.ChipState.{ChipState}
 use Rattle.chip_model.specs.Partial.{when, ◌>>=◌}
@@ -40,7 +40,7 @@ unit_at s tile = slice_get s.units tile
 
 -- the latches merge one step
 abbrev pub tick : Chip → ChipState → Option ChipState
-tick chip s = network_ticked chip s.network >>= (λ network. Some (with_network network s))
+tick chip s = after_network_tick chip s.network >>= (λ network. Some (with_network network s))
 
 -- the core of a tile works
 abbrev pub core : Behaviour → ChipState → ℕ → Option ChipState
@@ -51,22 +51,22 @@ abbrev pub inject : Chip → ChipState → ℕ → Option ChipState
 inject chip s tile =
     unit_at s tile >>= (λ unit.
     wanted unit.node.side.misses >>= (λ asked.
-    injected chip s.network tile asked.0 asked.1 >>= (λ network.
-    Some (with_node tile unit (request_sent unit.node) (with_network network s)))))
+    after_inject chip s.network tile asked.0 asked.1 >>= (λ network.
+    Some (with_node tile unit (after_request_sent unit.node) (with_network network s)))))
 
 -- a tile posts, and takes the next closed vector
 abbrev pub post : ChipState → ℕ → Option ChipState
-post s tile = request_posted s.network tile >>= (λ network. Some (with_network network s))
+post s tile = after_request_post s.network tile >>= (λ network. Some (with_network network s))
 
 -- a tile takes the next closed vector
 abbrev pub take_vector : ChipState → ℕ → Option ChipState
-take_vector s tile = vector_taken s.network tile >>= (λ network. Some (with_network network s))
+take_vector s tile = after_vector_take s.network tile >>= (λ network. Some (with_network network s))
 
 -- the request that a tile expects is delivered to its unit
 abbrev pub eject : Behaviour → Chip → ChipState → ℕ → Option ChipState
 eject behaviour chip s tile =
     unit_at s tile >>= (λ unit.
-    delivered_next chip s.network tile >>= (λ out.
+    after_delivery chip s.network tile >>= (λ out.
     Some (with_acted tile (behaviour.delivered out.0 unit) (with_network out.1 s))))
 
 -- the first message of a tile's queue enters the reply network
@@ -74,24 +74,24 @@ abbrev pub send : ChipState → ℕ → Option ChipState
 send s tile =
     unit_at s tile >>= (λ unit.
     slice_get unit.node.out 0 >>= (λ msg.
-    sent s.replies tile msg >>= (λ replies.
-    Some (with_node tile unit (message_sent unit.node) (record s { replies = replies })))))
+    after_send s.replies tile msg >>= (λ replies.
+    Some (with_node tile unit (after_message_sent unit.node) (record s { replies = replies })))))
 
 -- a copy of a request goes on to the router on a side
 abbrev pub hop : Chip → ChipState → ℕ → Port → ℕ → Port → Option ChipState
 hop chip s router port slot out =
-    copy_hopped chip s.network router port slot out >>= (λ network.
+    after_copy_hop chip s.network router port slot out >>= (λ network.
     Some (record s { network = network; hops = s.hops + 1 }))
 
 -- a message goes on to the next router of its route
 abbrev pub data_hop : Chip → ChipState → ℕ → Port → ℕ → Option ChipState
 data_hop chip s router port slot =
-    forwarded chip.grid s.replies router port slot >>= (λ replies. Some (record s { replies = replies }))
+    after_data_hop chip.grid s.replies router port slot >>= (λ replies. Some (record s { replies = replies }))
 
 -- a message comes to the unit of its tile
 abbrev pub data_eject : Behaviour → ChipState → ℕ → Port → ℕ → Option ChipState
 data_eject behaviour s router port slot =
-    received s.replies router port slot >>= (λ out.
+    after_data_eject s.replies router port slot >>= (λ out.
     unit_at s router >>= (λ unit.
     Some (with_acted router (behaviour.received out.0 unit) (record s { replies = out.1 }))))
 

@@ -21,15 +21,15 @@ use Rattle.chip_model.specs.declared.line_state.State.TheVariants.{M, O, S}
 use Rattle.chip_model.specs.declared.owner.Owner.{Owner}
 use Rattle.chip_model.specs.declared.owner.Owner.TheVariants.{Memory, Tile}
 use Rattle.chip_model.specs.Chip.{chip_of, set_number}
-use Rattle.chip_model.specs.Windows.{posted, ticked, taken_by}
-use Rattle.chip_model.specs.Copies.{entered, hopped, local_place, served}
-use Rattle.chip_model.specs.Replies.{sent, next_channel, forwarded, received}
-use Rattle.chip_model.specs.OrderedNetwork.{Interface, injected, request_posted, network_ticked, vector_taken, expected_at, copy_hopped, delivered_next}
+use Rattle.chip_model.specs.Windows.{after_post, after_tick, after_take}
+use Rattle.chip_model.specs.Copies.{after_entry, after_hop, local_place, after_serve}
+use Rattle.chip_model.specs.Replies.{after_send, next_channel, after_data_hop, after_data_eject}
+use Rattle.chip_model.specs.OrderedNetwork.{Interface, after_inject, after_request_post, after_network_tick, after_vector_take, expected_at, after_copy_hop, after_delivery}
 use Rattle.chip_model.specs.Cache.{Held, lookup, has_room, installed, without_line, without_shared, lowest_for}
 use Rattle.chip_model.specs.Misses.{Demand, WriteBack, wanted, marked_sent}
-use Rattle.chip_model.specs.Snoop.{holding, snooped, data_arrived}
+use Rattle.chip_model.specs.Snoop.{holding, after_snoop, after_data}
 use Rattle.chip_model.specs.Records.{LineRecord, answered, back_arrived}
-use Rattle.chip_model.specs.Node.{Node, request_delivered, message_arrived, request_sent, message_sent, accessed}
+use Rattle.chip_model.specs.Node.{Node, node_after_request, node_after_message, after_request_sent, after_message_sent, node_after_access}
 use Rattle.chip_model.specs.Units.{UnitState, core_event, in_order}
 use Rattle.chip_model.specs.ChipState.{ChipState, opening, finished}
 use Rattle.chip_model.specs.Events.{unit_at, step}
@@ -40,7 +40,7 @@ use Rattle.chip_model.specs.Schedules.{sweeps}
 use Rattle.chip_model.specs.Schedules.{slots as chip_slots}
 use Rattle.mesh_gen.specs.Ports.{count_if}
 use Rattle.chip_model.specs.Bookkeeping.{count_by_tile, is_get_of}
-use Rattle.chip_model.specs.Suppliers.{has_early, is_ordered, place_of_get, next_given_back, is_fresh_by, is_to_come, answers_to_come, backs_under_way, backs_to_come, last_given_back, waiters_behind}
+use Rattle.chip_model.specs.Suppliers.{has_early, is_ordered, place_of_get, next_written_back, is_fresh_by, is_to_come, answers_to_come, write_backs_in_flight, write_backs_to_come, last_written_back, waiters_after}
 use Rattle.chip_model.specs.Values.{place_of_shared}
 use Rattle.chip_model.specs.Rows.{store_buffering, dirty_eviction, swept_from_first, swept_report}
 use Rattle.chip_model.specs.Reports.{report_of}
@@ -95,7 +95,7 @@ one_to_come d s t node =
 
 abbrev fresh_holds : Doc → ChipState → Node → ℕ → LineRecord → Owner → Bool
 fresh_holds d s node line r Memory = has_value d s line (Some node.delivered) r.words
-fresh_holds d s node line r (Tile t) = has_value d s line (next_given_back s line node.delivered) r.words
+fresh_holds d s node line r (Tile t) = has_value d s line (next_written_back s line node.delivered) r.words
 
 abbrev same_owner : Owner → Owner → Bool
 same_owner Memory Memory = true
@@ -109,14 +109,14 @@ record_holds d s node line (Some r) =
     same_owner r.owner (owner line (delivered_to s.network.ordered node))
     && same r.fresh (is_fresh_by s node line r.owner)
     && (not r.fresh || fresh_holds d s node line r r.owner)
-    && (length r.waiters == length (if r.fresh then [] else waiters_behind s node line (last_given_back line (delivered_to s.network.ordered node))))
+    && (length r.waiters == length (if r.fresh then [] else waiters_after s node line (last_written_back line (delivered_to s.network.ordered node))))
 
 abbrev line_holds : Doc → ChipState → Node → ℕ → Bool
 line_holds d s node line =
     copy_holds d s node line (lookup node.chip node.side.cache line)
     && same (owns node.chip node.side line) (is_tile node.tile (owner line (delivered_to s.network.ordered node)))
     && record_holds d s node line (slice_index_or node.records line None)
-    && nat_le (backs_under_way s line + backs_to_come s line) 1
+    && nat_le (write_backs_in_flight s line + write_backs_to_come s line) 1
 
 abbrev data_holds : Doc → ChipState → Msg → Option UnitState → Bool
 data_holds d s msg None = false
@@ -124,7 +124,7 @@ data_holds d s msg (Some unit) = has_value d s msg.line (place_of_get s unit.nod
 
 abbrev message_holds : Doc → ChipState → Msg → MsgKind → Bool
 message_holds d s msg Data = data_holds d s msg (slice_get s.units msg.to)
-message_holds d s msg Back = has_value d s msg.line (last_given_back msg.line s.network.ordered) msg.words
+message_holds d s msg Back = has_value d s msg.line (last_written_back msg.line s.network.ordered) msg.words
 
 abbrev messages_hold : Doc → ChipState → List Msg → Bool
 messages_hold d s out = list_all (λ (msg : Msg). message_holds d s msg msg.kind) out
@@ -165,11 +165,11 @@ beside_along d (Some s) (event ∷ events) = list_any has_both s.units || beside
 
 pub dirty_eviction_holds : (let journal = (swept_from_first dirty_eviction 1000000 40).journal in
     (along dirty_eviction (Some (opening dirty_eviction)) journal ≡ true) × (beside_along dirty_eviction (Some (opening dirty_eviction)) journal ≡ true))
-unfolding digits x_of y_of has without_port has_tile tree_outs slots at put weigh loaded set_number posted ticked taken_by entered hopped local_place served sent next_channel forwarded received injected request_posted network_ticked vector_taken expected_at copy_hopped delivered_next lookup has_room installed without_line without_shared lowest_for wanted marked_sent holding snooped data_arrived answered back_arrived request_delivered message_arrived request_sent message_sent accessed core_event in_order finished unit_at step after run owner_after owner owns witness line_value chip_slots sweeps
+unfolding digits x_of y_of has without_port has_tile tree_outs slots at put weigh loaded set_number after_post after_tick after_take after_entry after_hop local_place after_serve after_send next_channel after_data_hop after_data_eject after_inject after_request_post after_network_tick after_vector_take expected_at after_copy_hop after_delivery lookup has_room installed without_line without_shared lowest_for wanted marked_sent holding after_snoop after_data answered back_arrived node_after_request node_after_message after_request_sent after_message_sent node_after_access core_event in_order finished unit_at step after run owner_after owner owns witness line_value chip_slots sweeps
 dirty_eviction_holds = (refl, refl)
 
 pub store_buffering_holds : along store_buffering (Some (opening store_buffering)) (swept_from_first store_buffering 1000000 40).journal ≡ true
-unfolding digits x_of y_of has without_port has_tile tree_outs slots at put weigh loaded set_number posted ticked taken_by entered hopped local_place served sent next_channel forwarded received injected request_posted network_ticked vector_taken expected_at copy_hopped delivered_next lookup has_room installed without_line without_shared lowest_for wanted marked_sent holding snooped data_arrived answered back_arrived request_delivered message_arrived request_sent message_sent accessed core_event in_order finished unit_at step after run owner_after owner owns witness line_value chip_slots sweeps
+unfolding digits x_of y_of has without_port has_tile tree_outs slots at put weigh loaded set_number after_post after_tick after_take after_entry after_hop local_place after_serve after_send next_channel after_data_hop after_data_eject after_inject after_request_post after_network_tick after_vector_take expected_at after_copy_hop after_delivery lookup has_room installed without_line without_shared lowest_for wanted marked_sent holding after_snoop after_data answered back_arrived node_after_request node_after_message after_request_sent after_message_sent node_after_access core_event in_order finished unit_at step after run owner_after owner owns witness line_value chip_slots sweeps
 store_buffering_holds = refl
 
 -- two tiles read and write two lines that share a way: upgrades, owners' copies, write-backs, and some that come too late
@@ -193,7 +193,7 @@ pub contention_holds : (let s = swept_from_first contention 1000000 80 in
     (along contention (Some (opening contention)) s.journal ≡ true)
     × (beside_along contention (Some (opening contention)) s.journal ≡ true)
     × (finished s ≡ true))
-unfolding digits x_of y_of has without_port has_tile tree_outs slots at put weigh loaded set_number posted ticked taken_by entered hopped local_place served sent next_channel forwarded received injected request_posted network_ticked vector_taken expected_at copy_hopped delivered_next lookup has_room installed without_line without_shared lowest_for wanted marked_sent holding snooped data_arrived answered back_arrived request_delivered message_arrived request_sent message_sent accessed core_event in_order finished unit_at step after run owner_after owner owns witness line_value chip_slots sweeps
+unfolding digits x_of y_of has without_port has_tile tree_outs slots at put weigh loaded set_number after_post after_tick after_take after_entry after_hop local_place after_serve after_send next_channel after_data_hop after_data_eject after_inject after_request_post after_network_tick after_vector_take expected_at after_copy_hop after_delivery lookup has_room installed without_line without_shared lowest_for wanted marked_sent holding after_snoop after_data answered back_arrived node_after_request node_after_message after_request_sent after_message_sent node_after_access core_event in_order finished unit_at step after run owner_after owner owns witness line_value chip_slots sweeps
 contention_holds = (refl, refl, refl)
 
 -- two tiles count in two lines that share a way: adds and swaps that miss while a line is written back
@@ -207,10 +207,10 @@ pub counting_beside_holds : (let s = swept_from_first counting_beside 1000000 80
     (along counting_beside (Some (opening counting_beside)) s.journal ≡ true)
     × (beside_along counting_beside (Some (opening counting_beside)) s.journal ≡ true)
     × (finished s ≡ true))
-unfolding digits x_of y_of has without_port has_tile tree_outs slots at put weigh loaded set_number posted ticked taken_by entered hopped local_place served sent next_channel forwarded received injected request_posted network_ticked vector_taken expected_at copy_hopped delivered_next lookup has_room installed without_line without_shared lowest_for wanted marked_sent holding snooped data_arrived answered back_arrived request_delivered message_arrived request_sent message_sent accessed core_event in_order finished unit_at step after run owner_after owner owns witness line_value chip_slots sweeps
+unfolding digits x_of y_of has without_port has_tile tree_outs slots at put weigh loaded set_number after_post after_tick after_take after_entry after_hop local_place after_serve after_send next_channel after_data_hop after_data_eject after_inject after_request_post after_network_tick after_vector_take expected_at after_copy_hop after_delivery lookup has_room installed without_line without_shared lowest_for wanted marked_sent holding after_snoop after_data answered back_arrived node_after_request node_after_message after_request_sent after_message_sent node_after_access core_event in_order finished unit_at step after run owner_after owner owns witness line_value chip_slots sweeps
 counting_beside_holds = (refl, refl, refl)
 
 pub counting_beside_counts : (let r = swept_report counting_beside 1000000 80 in
     slice_index_or r.memory 0 0 ∷ slice_index_or r.memory 4 0 ∷ [] ≡ 17 ∷ 31 ∷ [])
-unfolding digits x_of y_of has without_port has_tile tree_outs slots at put weigh loaded set_number posted ticked taken_by entered hopped local_place served sent next_channel forwarded received injected request_posted network_ticked vector_taken expected_at copy_hopped delivered_next lookup has_room installed without_line without_shared lowest_for wanted marked_sent holding snooped data_arrived answered back_arrived request_delivered message_arrived request_sent message_sent accessed core_event in_order finished unit_at step after run owner_after owner owns witness line_value chip_slots sweeps report_of
+unfolding digits x_of y_of has without_port has_tile tree_outs slots at put weigh loaded set_number after_post after_tick after_take after_entry after_hop local_place after_serve after_send next_channel after_data_hop after_data_eject after_inject after_request_post after_network_tick after_vector_take expected_at after_copy_hop after_delivery lookup has_room installed without_line without_shared lowest_for wanted marked_sent holding after_snoop after_data answered back_arrived node_after_request node_after_message after_request_sent after_message_sent node_after_access core_event in_order finished unit_at step after run owner_after owner owns witness line_value chip_slots sweeps report_of
 counting_beside_counts = refl

@@ -10,8 +10,8 @@ use Rattle.chip_model.specs.declared.waiting.Waiting.{Waiting}
 use Rattle.chip_model.specs.Partial.{when}
 
 -- the request's kind and line; the access that waits; whether the request was sent; the place at which it was ordered;
--- the words that came before it was; whether another tile's GetM was ordered behind a load, so that its words serve
--- once and are not kept; and the tiles that wait for the words behind a store
+-- the words that came before it was; whether another tile's GetM was ordered after a load, so that its words serve
+-- once and are not kept; and the tiles that wait for the words after a store
 pub record Demand : Type 0 where
   pub kind : Kind
   pub line : ℕ
@@ -54,7 +54,7 @@ is_getm GetM = true
 is_getm GetS = false
 is_getm PutM = false
 
--- whether the last that waits asked for a copy to write: then the words go on to it, and nobody behind waits here
+-- whether the last that waits asked for a copy to write: then the words go on to it, and nobody after waits here
 abbrev pub ends_in_getm : List Waiting → Bool
 ends_in_getm [] = false
 ends_in_getm (last ∷ []) = is_getm last.kind

@@ -11,15 +11,15 @@ use Rattle.mesh_gen.specs.declared.msg.Msg.{Msg}
 use Rattle.mesh_gen.specs.declared.msg_kind.MsgKind.TheVariants.{Data}
 use Rattle.vc_bank.specs.Places.{Network, slots, at, put}
 use Rattle.chip_model.specs.Chip.{Chip}
-use Rattle.chip_model.specs.Windows.{posted, ticked, taken_by}
-use Rattle.chip_model.specs.Copies.{entered, hopped, local_place, served}
-use Rattle.chip_model.specs.Replies.{no_replies, sent, forwarded, received, next_channel, is_empty}
-use Rattle.chip_model.specs.OrderedNetwork.{OrderedNetwork, opening_network, sources, injected, request_posted, network_ticked, vector_taken, expected_at, copy_hopped, delivered_next}
+use Rattle.chip_model.specs.Windows.{after_post, after_tick, after_take}
+use Rattle.chip_model.specs.Copies.{after_entry, after_hop, local_place, after_serve}
+use Rattle.chip_model.specs.Replies.{no_replies, after_send, after_data_hop, after_data_eject, next_channel, is_empty}
+use Rattle.chip_model.specs.OrderedNetwork.{OrderedNetwork, opening_network, sources, after_inject, after_request_post, after_network_tick, after_vector_take, expected_at, after_copy_hop, after_delivery}
 use Rattle.chip_model.specs.Schedules.{slots as chip_slots}
 use Rattle.chip_model.specs.Delivery.{network_step, network_swept, window_events, passes, delivered_lists}
 
-abbrev pub mesh_of : ℕ → ℕ → ℕ → Chip
-mesh_of cols rows window = record {
+abbrev pub small_chip : ℕ → ℕ → ℕ → Chip
+small_chip cols rows window = record {
   grid = record { cols = cols; rows = rows };
   window = window;
   vcs = 1;
@@ -30,16 +30,16 @@ mesh_of cols rows window = record {
   controllers = 0 ∷ [];
 }
 
--- the network after these windows, with so many passes behind each
+-- the network after these windows, with so many passes after each
 abbrev pub after_windows : Chip → ℕ → List (List ℕ) → OrderedNetwork
 after_windows chip count windows =
     fold (λ net tiles. passes chip count (network_swept chip net (window_events chip tiles))) (opening_network chip) windows
 
 pub every_tile_delivers_the_order :
-    (delivered_lists (after_windows (mesh_of 2 2 2) 8 ((0 ∷ 3 ∷ []) ∷ (1 ∷ 3 ∷ []) ∷ (2 ∷ []) ∷ [])) ≡ replicate 4 (0 ∷ 3 ∷ 1 ∷ 3 ∷ 2 ∷ []))
-    × (sources (after_windows (mesh_of 2 2 2) 8 ((3 ∷ []) ∷ (0 ∷ 1 ∷ 3 ∷ []) ∷ [])).ordered ≡ 3 ∷ 1 ∷ 3 ∷ 0 ∷ [])
-    × (delivered_lists (after_windows (mesh_of 3 1 2) 8 ((2 ∷ []) ∷ (0 ∷ 1 ∷ []) ∷ [])) ≡ replicate 3 (2 ∷ 1 ∷ 0 ∷ []))
-unfolding x_of y_of has without_port has_tile tree_outs slots at put posted ticked taken_by entered hopped local_place served injected request_posted network_ticked vector_taken expected_at copy_hopped delivered_next chip_slots network_step passes
+    (delivered_lists (after_windows (small_chip 2 2 2) 8 ((0 ∷ 3 ∷ []) ∷ (1 ∷ 3 ∷ []) ∷ (2 ∷ []) ∷ [])) ≡ replicate 4 (0 ∷ 3 ∷ 1 ∷ 3 ∷ 2 ∷ []))
+    × (sources (after_windows (small_chip 2 2 2) 8 ((3 ∷ []) ∷ (0 ∷ 1 ∷ 3 ∷ []) ∷ [])).ordered ≡ 3 ∷ 1 ∷ 3 ∷ 0 ∷ [])
+    × (delivered_lists (after_windows (small_chip 3 1 2) 8 ((2 ∷ []) ∷ (0 ∷ 1 ∷ []) ∷ [])) ≡ replicate 3 (2 ∷ 1 ∷ 0 ∷ []))
+unfolding x_of y_of has without_port has_tile tree_outs slots at put after_post after_tick after_take after_entry after_hop local_place after_serve after_inject after_request_post after_network_tick after_vector_take expected_at after_copy_hop after_delivery chip_slots network_step passes
 every_tile_delivers_the_order = (refl, refl, refl)
 
 abbrev pub three_by_three : Grid
@@ -57,25 +57,25 @@ the_tree_of_the_middle_tile = (refl, refl, refl, refl, refl)
 abbrev pub two_by_two : Grid
 two_by_two = record { cols = 2; rows = 2 }
 
-abbrev pub message : Msg
-message = record { to = 3; kind = Data; line = 0; words = replicate 4 0 }
+abbrev pub data_message : Msg
+data_message = record { to = 3; kind = Data; line = 0; words = replicate 4 0 }
 
 abbrev pub on_its_way : Option (Network Msg)
-on_its_way = sent (no_replies two_by_two 1) 0 message
+on_its_way = after_send (no_replies two_by_two 1) 0 data_message
 
 abbrev pub one_hop_on : Option (Network Msg)
-one_hop_on = option_and_then (λ net. forwarded two_by_two net 0 L 0) on_its_way
+one_hop_on = option_and_then (λ net. after_data_hop two_by_two net 0 L 0) on_its_way
 
 abbrev pub two_hops_on : Option (Network Msg)
-two_hops_on = option_and_then (λ net. forwarded two_by_two net 1 W 0) one_hop_on
+two_hops_on = option_and_then (λ net. after_data_hop two_by_two net 1 W 0) one_hop_on
 
 pub a_message_goes_by_its_row_and_then_by_its_column :
-    (option_and_then (λ net. sent net 0 message) on_its_way ≡ None)
-    × (option_and_then (λ net. received net 0 L 0) on_its_way ≡ None)
-    × (option_map (λ net. at net 1 2 0) one_hop_on ≡ Some (Some message))
-    × (option_map (λ net. at net 3 3 0) two_hops_on ≡ Some (Some message))
-    × (option_and_then (λ net. forwarded two_by_two net 3 N 0) two_hops_on ≡ None)
-    × (option_map (λ net. option_map {U = Msg × Bool} (λ out. (out.0, is_empty out.1)) (received net 3 N 0)) two_hops_on ≡ Some (Some (message, true)))
+    (option_and_then (λ net. after_send net 0 data_message) on_its_way ≡ None)
+    × (option_and_then (λ net. after_data_eject net 0 L 0) on_its_way ≡ None)
+    × (option_map (λ net. at net 1 2 0) one_hop_on ≡ Some (Some data_message))
+    × (option_map (λ net. at net 3 3 0) two_hops_on ≡ Some (Some data_message))
+    × (option_and_then (λ net. after_data_hop two_by_two net 3 N 0) two_hops_on ≡ None)
+    × (option_map (λ net. option_map {U = Msg × Bool} (λ out. (out.0, is_empty out.1)) (after_data_eject net 3 N 0)) two_hops_on ≡ Some (Some (data_message, true)))
     × (rank two_by_two 0 L ≡ 4) × (rank two_by_two 1 W ≡ 2) × (rank two_by_two 3 N ≡ 0)
-unfolding x_of y_of slots at put sent next_channel forwarded received
+unfolding x_of y_of slots at put after_send next_channel after_data_hop after_data_eject
 a_message_goes_by_its_row_and_then_by_its_column = (refl, refl, refl, refl, refl, refl, refl, refl, refl)

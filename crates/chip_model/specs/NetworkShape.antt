@@ -6,7 +6,7 @@ use Rattle.mesh_gen.specs.declared.msg_kind.MsgKind.TheVariants.{Data, Back}
 use Rattle.mesh_gen.specs.declared.port.Port.{Port}
 use Rattle.mesh_gen.specs.Grid.{Grid, tiles}
 use Rattle.mesh_gen.specs.Ports.{port_number}
-use Rattle.mesh_gen.specs.Routes.{MayStand}
+use Rattle.mesh_gen.specs.Routes.{IsRouteChannel}
 use Rattle.vc_bank.specs.Channels.{Channels, empty_channels, slots_at}
 use Rattle.vc_bank.specs.Places.{Network, at}
 use Rattle.order_tracker.specs.Tracker.{IsWindow}
@@ -43,8 +43,8 @@ abbrev pub CopiesAreMade : OrderedNetwork → Type 0
 CopiesAreMade net = (router port slot : ℕ) (copy : NetCopy) → at net.copies router port slot ≡ Some copy → IsCopyOfMade net copy
 
 -- a message stands at a port that it comes to on its route
-abbrev pub StandsOnRoute : Grid → Network Msg → Type 0
-StandsOnRoute g net = (router slot : ℕ) (port : Port) (msg : Msg) → at net router (port_number port) slot ≡ Some msg → MayStand g msg.to router port
+abbrev pub IsOnRoute : Grid → Network Msg → Type 0
+IsOnRoute g net = (router slot : ℕ) (port : Port) (msg : Msg) → at net router (port_number port) slot ≡ Some msg → IsRouteChannel g msg.to router port
 
 -- a line's data for its home goes there
 abbrev pub GoesTo : Chip → Msg → MsgKind → Type 0

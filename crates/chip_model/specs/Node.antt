@@ -14,7 +14,7 @@ use Rattle.chip_model.specs.declared.line_state.State.TheVariants.{M, O, S}
 use Rattle.chip_model.specs.Chip.{Chip, home, line_of}
 use Rattle.chip_model.specs.Cache.{Cache, Held, empty_cache, lookup, has_room, installed, without_line, without_shared, lowest_for}
 use Rattle.chip_model.specs.Misses.{no_misses, is_written_back, request_for, new_demand, new_back, marked_sent}
-use Rattle.chip_model.specs.Snoop.{CacheSide, with_cache, with_demand, with_back, written_by, done_by, snooped, data_arrived}
+use Rattle.chip_model.specs.Snoop.{CacheSide, with_cache, with_demand, with_back, written_by, done_by, after_snoop, after_data}
 use Rattle.chip_model.specs.Records.{LineRecord, Records, opening_record, answered, back_arrived}
 use Rattle.chip_model.specs.Partial.{when}
 
@@ -56,16 +56,16 @@ abbrev pub Performed : Type 0
 Performed = Node × Option Done
 
 -- a request is delivered: first the cache acts, then the controller
-unfoldable pub request_delivered : Request → Node → Performed
-request_delivered q node =
-    let outcome = snooped node.chip node.tile node.side node.delivered q in
+unfoldable pub node_after_request : Request → Node → Performed
+node_after_request q node =
+    let outcome = after_snoop node.chip node.tile node.side node.delivered q in
     let answers = answered q node.records in
     (record node { side = outcome.side; records = answers.records; out = node.out ++ outcome.sends ++ answers.sends; delivered = node.delivered + 1 }, outcome.done)
 
 -- words for the demand come
 abbrev pub words_arrived : Node → List ℕ → Performed
 words_arrived node words =
-    let outcome = data_arrived node.chip node.side words in
+    let outcome = after_data node.chip node.side words in
     (record node { side = outcome.side; out = node.out ++ outcome.sends }, outcome.done)
 
 -- words that are written back come to the controller
@@ -80,16 +80,16 @@ arrived_as msg node Data = words_arrived node msg.words
 arrived_as msg node Back = (back_came node msg.line msg.words, None)
 
 -- a message comes: data for the demand, or words that come back to the controller
-unfoldable pub message_arrived : Msg → Node → Performed
-message_arrived msg node = arrived_as msg node msg.kind
+unfoldable pub node_after_message : Msg → Node → Performed
+node_after_message msg node = arrived_as msg node msg.kind
 
 -- the node's request is sent; its next message is
-unfoldable pub request_sent : Node → Node
-request_sent node = record node { side = record node.side { misses = marked_sent node.side.misses } }
+unfoldable pub after_request_sent : Node → Node
+after_request_sent node = record node { side = record node.side { misses = marked_sent node.side.misses } }
 
 -- the first message of the queue is sent
-unfoldable pub message_sent : Node → Node
-message_sent node = record node { out = drop 1 node.out }
+unfoldable pub after_message_sent : Node → Node
+after_message_sent node = record node { out = drop 1 node.out }
 
 -- The core's accesses.
 
@@ -143,15 +143,15 @@ back_started node (Some held) = when (not (holds_back node.out || is_some node.s
 ))
 
 -- a miss of a line whose set is full: a shared line is dropped silently, and where there is none one is written back
-abbrev pub room_made : Pending → Node → Option Cache → Option Performed
-room_made access node (Some cache) = Some (demand_started access (with_cache cache node.side) node)
-room_made access node None = back_started node (lowest_for node.chip (line_of access.address) node.side.cache)
+abbrev pub victim_evicted : Pending → Node → Option Cache → Option Performed
+victim_evicted access node (Some cache) = Some (demand_started access (with_cache cache node.side) node)
+victim_evicted access node None = back_started node (lowest_for node.chip (line_of access.address) node.side.cache)
 
 -- a miss of a line that is not in the cache
 abbrev pub missed : Pending → Node → Option Performed
 missed access node =
     if has_room node.chip node.side.cache (line_of access.address) then Some (demand_started access node.side node)
-    else room_made access node (without_shared node.chip (line_of access.address) node.side.cache)
+    else victim_evicted access node (without_shared node.chip (line_of access.address) node.side.cache)
 
 -- a miss is possible of any line but the one that is written back
 abbrev pub unless_written_back : Pending → Node → Option Performed → Option Performed
@@ -171,6 +171,6 @@ accessed_with access node (Some held) =
 
 -- an access of the core: none where another one waits for its words, where its line is the one that is written back, or
 -- where a write-back would have to wait
-unfoldable pub accessed : Pending → Node → Option Performed
-accessed access node =
+unfoldable pub node_after_access : Pending → Node → Option Performed
+node_after_access access node =
     when (not (has_entry node)) (accessed_with access node (lookup node.chip node.side.cache (line_of access.address)))

@@ -18,15 +18,15 @@ abbrev pub is_tile : ℕ → Owner → Bool
 is_tile t Memory = false
 is_tile t (Tile owner) = owner == t
 
--- a tile gives the line back: that counts where it owned it
-abbrev pub given_back : ℕ → Owner → Owner
-given_back t owner = if is_tile t owner then Memory else owner
+-- a tile writes the line back: that counts where it owned it
+abbrev pub written_back : ℕ → Owner → Owner
+written_back t owner = if is_tile t owner then Memory else owner
 
 -- the owner after one more request for the line: a GetM makes its tile the owner, a PutM of the owner the memory
 abbrev pub owner_by : ℕ → Kind → Owner → Owner
 owner_by t GetS owner = owner
 owner_by t GetM owner = Tile t
-owner_by t PutM owner = given_back t owner
+owner_by t PutM owner = written_back t owner
 
 -- the owner of a line after one more request
 unfoldable pub owner_after : ℕ → Owner → Request → Owner
@@ -40,7 +40,7 @@ owner line requests = fold (owner_after line) Memory requests
 abbrev pub writer_by : ℕ → Kind → Owner → Owner
 writer_by t GetS writer = Memory
 writer_by t GetM writer = Tile t
-writer_by t PutM writer = given_back t writer
+writer_by t PutM writer = written_back t writer
 
 -- who may write a line after one more request
 unfoldable pub writer_after : ℕ → Owner → Request → Owner

@@ -53,10 +53,10 @@ from_memory q r GetM = record { left = record r { owner = Tile q.source; fresh =
 from_memory q r PutM = silent r
 
 -- a get that comes before the words that are written back waits for them
-abbrev pub behind_back : Request → LineRecord → Kind → Answer
-behind_back q r GetS = silent (with_waiter q r)
-behind_back q r GetM = silent (record (with_waiter q r) { owner = Tile q.source })
-behind_back q r PutM = silent r
+abbrev pub awaiting_write_back : Request → LineRecord → Kind → Answer
+awaiting_write_back q r GetS = silent (with_waiter q r)
+awaiting_write_back q r GetM = silent (record (with_waiter q r) { owner = Tile q.source })
+awaiting_write_back q r PutM = silent r
 
 -- a request for a line that a tile owns
 abbrev pub owned_by_tile : Request → LineRecord → ℕ → Kind → Answer
@@ -66,7 +66,7 @@ owned_by_tile q r tile PutM = silent (if tile == q.source then record r { owner 
 
 -- what a record does at a request, by its owner
 abbrev pub answered_by : Request → LineRecord → Owner → Answer
-answered_by q r Memory = if r.fresh then from_memory q r q.kind else behind_back q r q.kind
+answered_by q r Memory = if r.fresh then from_memory q r q.kind else awaiting_write_back q r q.kind
 answered_by q r (Tile tile) = owned_by_tile q r tile q.kind
 
 -- what a controller's records become, and the messages that it sends

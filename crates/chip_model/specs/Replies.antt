@@ -18,8 +18,8 @@ abbrev pub no_replies : Grid → ℕ → Network Msg
 no_replies g data_vcs = replicate (tiles g) (empty_channels data_vcs false)
 
 -- a message enters the lowest free channel of a router's local port
-unfoldable pub sent : Network Msg → ℕ → Msg → Option (Network Msg)
-sent net r msg =
+unfoldable pub after_send : Network Msg → ℕ → Msg → Option (Network Msg)
+after_send net r msg =
     lowest_free (channels_of net r) (port_number L) >>= (λ slot.
     Some (put net r (port_number L) slot (Some msg)))
 
@@ -31,15 +31,15 @@ next_channel g net r msg = let out = route g r msg.to in
     Some (record { router = to; port = opposite out; slot = slot })))
 
 -- the message in a channel goes on to the next one
-unfoldable pub forwarded : Grid → Network Msg → ℕ → Port → ℕ → Option (Network Msg)
-forwarded g net r port slot =
+unfoldable pub after_data_hop : Grid → Network Msg → ℕ → Port → ℕ → Option (Network Msg)
+after_data_hop g net r port slot =
     at net r (port_number port) slot >>= (λ msg.
     next_channel g net r msg >>= (λ next.
     Some (put (put net r (port_number port) slot None) next.router (port_number next.port) next.slot (Some msg))))
 
 -- the message that leaves a channel at its own tile, and the messages then
-unfoldable pub received : Network Msg → ℕ → Port → ℕ → Option (Msg × Network Msg)
-received net r port slot =
+unfoldable pub after_data_eject : Network Msg → ℕ → Port → ℕ → Option (Msg × Network Msg)
+after_data_eject net r port slot =
     at net r (port_number port) slot >>= (λ msg. when (msg.to == r)
     (Some (msg, put net r (port_number port) slot None)))
 

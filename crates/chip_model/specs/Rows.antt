@@ -14,19 +14,19 @@ use Rattle.report_text.specs.declared.access.AccessKind.TheVariants.{Add}
 use Rattle.report_text.specs.declared.event.Event.{Event}
 use Rattle.report_text.specs.declared.event.Event.TheVariants.{Tick, Core, Inject, Post, Take, Eject, Send, DataEject}
 use Rattle.report_text.specs.declared.report.Report.{Report}
-use Rattle.report_text.specs.Lines.{text_of}
+use Rattle.report_text.specs.Lines.{text_of_lines}
 use Rattle.report_text.specs.Report.{report_text}
 use Rattle.doc_text.specs.Doc.{Doc}
 use Rattle.chip_model.specs.Chip.{chip_of, set_number}
-use Rattle.chip_model.specs.Windows.{posted, ticked, taken_by}
-use Rattle.chip_model.specs.Copies.{entered, hopped, local_place, served}
-use Rattle.chip_model.specs.Replies.{sent, next_channel, forwarded, received}
-use Rattle.chip_model.specs.OrderedNetwork.{injected, request_posted, network_ticked, vector_taken, expected_at, copy_hopped, delivered_next}
+use Rattle.chip_model.specs.Windows.{after_post, after_tick, after_take}
+use Rattle.chip_model.specs.Copies.{after_entry, after_hop, local_place, after_serve}
+use Rattle.chip_model.specs.Replies.{after_send, next_channel, after_data_hop, after_data_eject}
+use Rattle.chip_model.specs.OrderedNetwork.{after_inject, after_request_post, after_network_tick, after_vector_take, expected_at, after_copy_hop, after_delivery}
 use Rattle.chip_model.specs.Cache.{lookup, has_room, installed, without_line, without_shared, lowest_for}
 use Rattle.chip_model.specs.Misses.{wanted, marked_sent}
-use Rattle.chip_model.specs.Snoop.{holding, snooped, data_arrived}
+use Rattle.chip_model.specs.Snoop.{holding, after_snoop, after_data}
 use Rattle.chip_model.specs.Records.{answered, back_arrived}
-use Rattle.chip_model.specs.Node.{request_delivered, message_arrived, request_sent, message_sent, accessed}
+use Rattle.chip_model.specs.Node.{node_after_request, node_after_message, after_request_sent, after_message_sent, node_after_access}
 use Rattle.chip_model.specs.Units.{core_event, in_order}
 use Rattle.chip_model.specs.ChipState.{ChipState, opening, finished}
 use Rattle.chip_model.specs.Events.{unit_at, step}
@@ -69,7 +69,7 @@ abbrev pub one_tile_events : List Event
 one_tile_events = Core 0 ∷ Core 0 ∷ Inject 0 ∷ Post 0 ∷ Tick ∷ Take 0 ∷ Eject 0 ∷ Send 0 ∷ DataEject 0 L 0 ∷ Core 0 ∷ Core 0 ∷ []
 
 abbrev pub one_tile_text : List ℕ
-one_tile_text = text_of (
+one_tile_text = text_of_lines (
     codes "requests 1"
     ∷ codes "q 0 0 0 GetM 0"
     ∷ codes "seen 1"
@@ -97,7 +97,7 @@ one_tile_text = text_of (
 
 -- the same with a budget of one event less
 abbrev pub one_event_less_text : List ℕ
-one_event_less_text = text_of (
+one_event_less_text = text_of_lines (
     codes "requests 1"
     ∷ codes "q 0 0 0 GetM 0"
     ∷ codes "seen 1"
@@ -139,7 +139,7 @@ store_buffering = record {
 }
 
 abbrev pub store_buffering_text : List ℕ
-store_buffering_text = text_of (
+store_buffering_text = text_of_lines (
     codes "requests 4"
     ∷ codes "q 0 0 0 GetM 0"
     ∷ codes "q 1 1 0 GetM 1"
@@ -178,7 +178,7 @@ dirty_eviction = record {
 }
 
 abbrev pub dirty_eviction_text : List ℕ
-dirty_eviction_text = text_of (
+dirty_eviction_text = text_of_lines (
     codes "requests 3"
     ∷ codes "q 0 0 0 GetM 0"
     ∷ codes "q 1 0 1 PutM 0"
@@ -220,7 +220,7 @@ read_and_written = record one_tile {
 }
 
 abbrev pub read_and_written_text : List ℕ
-read_and_written_text = text_of (
+read_and_written_text = text_of_lines (
     codes "requests 1"
     ∷ codes "q 0 0 0 GetM 0"
     ∷ codes "seen 1"
@@ -247,22 +247,22 @@ pub one_tile_prints :
     × (report_text (swept_report one_tile 1000000 20) ≡ one_tile_text)
     × (report_text (swept_report one_tile 10 20) ≡ one_event_less_text)
     × (report_text (swept_report one_tile 11 20) ≡ one_tile_text)
-unfolding digits x_of y_of has without_port has_tile tree_outs slots at put loaded set_number posted ticked taken_by entered hopped local_place served sent next_channel forwarded received injected request_posted network_ticked vector_taken expected_at copy_hopped delivered_next lookup has_room installed without_line without_shared lowest_for wanted marked_sent holding snooped data_arrived answered back_arrived request_delivered message_arrived request_sent message_sent accessed core_event in_order finished unit_at step after run owner_after owner witness report_of chip_slots sweeps
+unfolding digits x_of y_of has without_port has_tile tree_outs slots at put loaded set_number after_post after_tick after_take after_entry after_hop local_place after_serve after_send next_channel after_data_hop after_data_eject after_inject after_request_post after_network_tick after_vector_take expected_at after_copy_hop after_delivery lookup has_room installed without_line without_shared lowest_for wanted marked_sent holding after_snoop after_data answered back_arrived node_after_request node_after_message after_request_sent after_message_sent node_after_access core_event in_order finished unit_at step after run owner_after owner witness report_of chip_slots sweeps
 one_tile_prints = (refl, refl, refl, refl)
 
 -- the run of the schedule's events is the state that the schedule leaves
 pub store_buffering_prints :
     Begins (swept_report store_buffering 1000000 40) store_buffering_text
-unfolding digits x_of y_of has without_port has_tile tree_outs slots at put loaded set_number posted ticked taken_by entered hopped local_place served sent next_channel forwarded received injected request_posted network_ticked vector_taken expected_at copy_hopped delivered_next lookup has_room installed without_line without_shared lowest_for wanted marked_sent holding snooped data_arrived answered back_arrived request_delivered message_arrived request_sent message_sent accessed core_event in_order finished unit_at step after run owner_after owner witness report_of chip_slots sweeps
+unfolding digits x_of y_of has without_port has_tile tree_outs slots at put loaded set_number after_post after_tick after_take after_entry after_hop local_place after_serve after_send next_channel after_data_hop after_data_eject after_inject after_request_post after_network_tick after_vector_take expected_at after_copy_hop after_delivery lookup has_room installed without_line without_shared lowest_for wanted marked_sent holding after_snoop after_data answered back_arrived node_after_request node_after_message after_request_sent after_message_sent node_after_access core_event in_order finished unit_at step after run owner_after owner witness report_of chip_slots sweeps
 store_buffering_prints = refl
 
 pub dirty_eviction_prints : Begins (swept_report dirty_eviction 1000000 40) dirty_eviction_text
-unfolding digits x_of y_of has without_port has_tile tree_outs slots at put loaded set_number posted ticked taken_by entered hopped local_place served sent next_channel forwarded received injected request_posted network_ticked vector_taken expected_at copy_hopped delivered_next lookup has_room installed without_line without_shared lowest_for wanted marked_sent holding snooped data_arrived answered back_arrived request_delivered message_arrived request_sent message_sent accessed core_event in_order finished unit_at step after run owner_after owner witness report_of chip_slots sweeps
+unfolding digits x_of y_of has without_port has_tile tree_outs slots at put loaded set_number after_post after_tick after_take after_entry after_hop local_place after_serve after_send next_channel after_data_hop after_data_eject after_inject after_request_post after_network_tick after_vector_take expected_at after_copy_hop after_delivery lookup has_room installed without_line without_shared lowest_for wanted marked_sent holding after_snoop after_data answered back_arrived node_after_request node_after_message after_request_sent after_message_sent node_after_access core_event in_order finished unit_at step after run owner_after owner witness report_of chip_slots sweeps
 dirty_eviction_prints = refl
 
 pub false_sharing_ends : (let r = swept_report false_sharing 1000000 60 in
     (length r.requests ≡ 4) × (r.windows ≡ 1) × (r.hops ≡ 12) × (r.memory ≡ 10 ∷ 11 ∷ 12 ∷ 13 ∷ []))
-unfolding digits x_of y_of has without_port has_tile tree_outs slots at put loaded set_number posted ticked taken_by entered hopped local_place served sent next_channel forwarded received injected request_posted network_ticked vector_taken expected_at copy_hopped delivered_next lookup has_room installed without_line without_shared lowest_for wanted marked_sent holding snooped data_arrived answered back_arrived request_delivered message_arrived request_sent message_sent accessed core_event in_order finished unit_at step after run owner_after owner witness report_of chip_slots sweeps
+unfolding digits x_of y_of has without_port has_tile tree_outs slots at put loaded set_number after_post after_tick after_take after_entry after_hop local_place after_serve after_send next_channel after_data_hop after_data_eject after_inject after_request_post after_network_tick after_vector_take expected_at after_copy_hop after_delivery lookup has_room installed without_line without_shared lowest_for wanted marked_sent holding after_snoop after_data answered back_arrived node_after_request node_after_message after_request_sent after_message_sent node_after_access core_event in_order finished unit_at step after run owner_after owner witness report_of chip_slots sweeps
 false_sharing_ends = (refl, refl, refl, refl)
 
 pub one_tile_bound : bound one_tile ≡ 80
@@ -270,10 +270,10 @@ one_tile_bound = refl
 
 pub read_and_written_prints :
     Begins (swept_report read_and_written 1000000 20) read_and_written_text
-unfolding digits x_of y_of has without_port has_tile tree_outs slots at put loaded set_number posted ticked taken_by entered hopped local_place served sent next_channel forwarded received injected request_posted network_ticked vector_taken expected_at copy_hopped delivered_next lookup has_room installed without_line without_shared lowest_for wanted marked_sent holding snooped data_arrived answered back_arrived request_delivered message_arrived request_sent message_sent accessed core_event in_order finished unit_at step after run owner_after owner witness report_of chip_slots sweeps
+unfolding digits x_of y_of has without_port has_tile tree_outs slots at put loaded set_number after_post after_tick after_take after_entry after_hop local_place after_serve after_send next_channel after_data_hop after_data_eject after_inject after_request_post after_network_tick after_vector_take expected_at after_copy_hop after_delivery lookup has_room installed without_line without_shared lowest_for wanted marked_sent holding after_snoop after_data answered back_arrived node_after_request node_after_message after_request_sent after_message_sent node_after_access core_event in_order finished unit_at step after run owner_after owner witness report_of chip_slots sweeps
 read_and_written_prints = refl
 
 pub counting_ends : (let r = swept_report counting 1000000 60 in
     (r.accesses ≡ map counted (0 ∷ 1 ∷ 2 ∷ 3 ∷ [])) × (r.windows ≡ 1) × (r.hops ≡ 12) × (r.memory ≡ 4 ∷ 0 ∷ 0 ∷ 0 ∷ []))
-unfolding digits x_of y_of has without_port has_tile tree_outs slots at put loaded set_number posted ticked taken_by entered hopped local_place served sent next_channel forwarded received injected request_posted network_ticked vector_taken expected_at copy_hopped delivered_next lookup has_room installed without_line without_shared lowest_for wanted marked_sent holding snooped data_arrived answered back_arrived request_delivered message_arrived request_sent message_sent accessed core_event in_order finished unit_at step after run owner_after owner witness report_of chip_slots sweeps
+unfolding digits x_of y_of has without_port has_tile tree_outs slots at put loaded set_number after_post after_tick after_take after_entry after_hop local_place after_serve after_send next_channel after_data_hop after_data_eject after_inject after_request_post after_network_tick after_vector_take expected_at after_copy_hop after_delivery lookup has_room installed without_line without_shared lowest_for wanted marked_sent holding after_snoop after_data answered back_arrived node_after_request node_after_message after_request_sent after_message_sent node_after_access core_event in_order finished unit_at step after run owner_after owner witness report_of chip_slots sweeps
 counting_ends = (refl, refl, refl, refl)

@@ -25,6 +25,6 @@ unfoldable pub run : Behaviour → Chip → ChipState → List Event → Option 
 run behaviour chip s [] = Some s
 run behaviour chip s (event ∷ events) = after behaviour chip s event >>= (λ new. run behaviour chip new events)
 
--- a state of a description's runs: its journal leads to it
+-- a state of a document's runs: its journal leads to it
 abbrev pub IsReachable : Behaviour → Doc → ChipState → Type 0
 IsReachable behaviour d s = run behaviour (chip_of d) (opening d) s.journal ≡ Some s

@@ -16,22 +16,22 @@ use Rattle.chip_model.specs.ChipState.{ChipState, opening, finished}
 use Rattle.chip_model.specs.Runs.{after}
 
 -- the four sides
-abbrev pub sides : List Port
-sides = E ∷ W ∷ N ∷ S ∷ []
+abbrev pub output_ports : List Port
+output_ports = E ∷ W ∷ N ∷ S ∷ []
 
 -- the five ports
 abbrev pub ports : List Port
-ports = L ∷ sides
+ports = L ∷ output_ports
 
 -- the hops of a channel by each side
 abbrev pub hops_from : ℕ → Port → ℕ → List Event
-hops_from router port slot = map (Hop router port slot) sides
+hops_from router port slot = map (Hop router port slot) output_ports
 
 -- the hops of a router: those of its own tile's channels, and those of the channels of each side with the reserved one
 abbrev pub router_hops : Chip → ℕ → List Event
 router_hops chip router =
     flat_map (hops_from router L) (upwards 0 chip.vcs)
-    ++ flat_map (λ port. flat_map (hops_from router port) (upwards 0 (chip.vcs + 1))) sides
+    ++ flat_map (λ port. flat_map (hops_from router port) (upwards 0 (chip.vcs + 1))) output_ports
 
 -- what names each reply channel of a router
 abbrev pub reply_events : Chip → (Port → ℕ → Event) → List Event

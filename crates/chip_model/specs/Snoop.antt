@@ -59,7 +59,7 @@ pub data Holding : Type 0 where
   OwnedCopy : List ℕ → Holding
   -- a write-back under which it still owns the line
   LiveBack : List ℕ → Holding
-  -- an ordered demand to write, behind which more tiles may wait
+  -- an ordered demand to write, after which more tiles may wait
   OpenWrite : Demand → Holding
   -- an ordered demand to read
   OpenRead : Demand → Holding
@@ -119,9 +119,9 @@ stale_back (Some back) = Some (record back { live = false })
 abbrev pub made_stale : CacheSide → CacheSide
 made_stale side = with_back (stale_back side.misses.back) side
 
--- the tile waits behind the demand; the demand's words serve once
-abbrev pub waits_behind : Request → Demand → CacheSide → CacheSide
-waits_behind q demand side = with_demand (Some (record demand { list = demand.list ++ record { tile = q.source; kind = q.kind } ∷ [] })) side
+-- the tile waits for the demand; the demand's words serve once
+abbrev pub deferred_to_demand : Request → Demand → CacheSide → CacheSide
+deferred_to_demand q demand side = with_demand (Some (record demand { list = demand.list ++ record { tile = q.source; kind = q.kind } ∷ [] })) side
 
 -- the demand's words serve once, and are not kept
 abbrev pub serves_once : Demand → CacheSide → CacheSide
@@ -133,8 +133,8 @@ snooped_with chip q side (OwnedCopy words) GetS = supplies q words (made_owned c
 snooped_with chip q side (OwnedCopy words) GetM = supplies q words (line_gone chip q.line side)
 snooped_with chip q side (LiveBack words) GetS = supplies q words side
 snooped_with chip q side (LiveBack words) GetM = supplies q words (made_stale side)
-snooped_with chip q side (OpenWrite demand) GetS = quiet (waits_behind q demand side)
-snooped_with chip q side (OpenWrite demand) GetM = quiet (waits_behind q demand (line_gone chip q.line side))
+snooped_with chip q side (OpenWrite demand) GetS = quiet (deferred_to_demand q demand side)
+snooped_with chip q side (OpenWrite demand) GetM = quiet (deferred_to_demand q demand (line_gone chip q.line side))
 snooped_with chip q side (OpenRead demand) GetS = quiet side
 snooped_with chip q side (OpenRead demand) GetM = quiet (serves_once demand side)
 snooped_with chip q side SharedCopy GetS = quiet side
@@ -215,7 +215,7 @@ abbrev pub owned_words : Option Held → Option (List ℕ)
 owned_words None = None
 owned_words (Some held) = words_in_state held.words held.state
 
--- the words that are here when a demand is ordered: those that came early, and else those of an owned copy
+-- the words that are here when a demand is ordered: early data, and else those of an owned copy
 abbrev pub words_here : Chip → CacheSide → Demand → Option (List ℕ) → Option (List ℕ)
 words_here chip side demand (Some words) = Some words
 words_here chip side demand None = if is_getm demand.kind then owned_words (lookup chip side.cache demand.line) else None
@@ -246,8 +246,8 @@ own_request chip side place GetM = own_get chip side place side.misses.demand
 own_request chip side place PutM = own_put chip side side.misses.back
 
 -- what the cache of a tile does at the delivery of a request at a place of the order
-unfoldable pub snooped : Chip → ℕ → CacheSide → ℕ → Request → Outcome
-snooped chip tile side place q =
+unfoldable pub after_snoop : Chip → ℕ → CacheSide → ℕ → Request → Outcome
+after_snoop chip tile side place q =
     if q.source == tile then own_request chip side place q.kind
     else snooped_with chip q side (holding chip side q.line) q.kind
 
@@ -262,5 +262,5 @@ data_for chip side words None = quiet side
 data_for chip side words (Some demand) = data_at chip side words demand demand.ordered
 
 -- what it does when the words of a demand come
-unfoldable pub data_arrived : Chip → CacheSide → List ℕ → Outcome
-data_arrived chip side words = data_for chip side words side.misses.demand
+unfoldable pub after_data : Chip → CacheSide → List ℕ → Outcome
+after_data chip side words = data_for chip side words side.misses.demand

@@ -18,7 +18,7 @@ use Rattle.chip_model.specs.Node.{Node}
 use Rattle.chip_model.specs.Units.{UnitState}
 use Rattle.chip_model.specs.ChipState.{ChipState}
 use Rattle.chip_model.specs.Witness.{line_value}
-use Rattle.chip_model.specs.Suppliers.{place_of_get, last_given_back, next_given_back}
+use Rattle.chip_model.specs.Suppliers.{place_of_get, last_written_back, next_written_back}
 use Rattle.chip_model.specs.Writers.{is_ordered_write, AllSettled, OthersSettled, time_of_place}
 
 -- words that are the value of a line at a place, which no write to come changes
@@ -57,22 +57,22 @@ pub record AnswersGet (d : Doc) (s : ChipState) (node : Node) (line : ℕ) (word
   pub line_is : request.line ≡ line
   pub value : HasValue d s line place words
 
--- words that come home have the line's value at the place of the request that gave it back
-pub record ComesFromBack (d : Doc) (s : ChipState) (line : ℕ) (words : List ℕ) : Type 0 where
+-- words that reach memory have the line's value at the place of the request that wrote it back
+pub record ComesFromWriteBack (d : Doc) (s : ChipState) (line : ℕ) (words : List ℕ) : Type 0 where
   pub place : ℕ
-  pub put : last_given_back line s.network.ordered ≡ Some place
+  pub put : last_written_back line s.network.ordered ≡ Some place
   pub value : HasValue d s line place words
 
 -- the words of a message have their value, by its kind
 abbrev pub MessageHasValue : Doc → ChipState → Msg → MsgKind → Type 0
 MessageHasValue d s msg Data = (unit : UnitState) → slice_get s.units msg.to ≡ Some unit → AnswersGet d s unit.node msg.line msg.words
-MessageHasValue d s msg Back = ComesFromBack d s msg.line msg.words
+MessageHasValue d s msg Back = ComesFromWriteBack d s msg.line msg.words
 
 -- a fresh record has the line's value at the home's count where the memory owns the line, and else at the place of the
 -- next request that gives it back
 abbrev pub RecordHasValue : Doc → ChipState → Node → ℕ → LineRecord → Owner → Type 0
 RecordHasValue d s node line r Memory = HasValue d s line node.delivered r.words
-RecordHasValue d s node line r (Tile t) = (place : ℕ) → next_given_back s line node.delivered ≡ Some place → HasValue d s line place r.words
+RecordHasValue d s node line r (Tile t) = (place : ℕ) → next_written_back s line node.delivered ≡ Some place → HasValue d s line place r.words
 
 -- everything that a node has of lines has its value
 pub record NodeHasValues (d : Doc) (s : ChipState) (node : Node) : Type 0 where

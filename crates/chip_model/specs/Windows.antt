@@ -20,8 +20,8 @@ abbrev pub may_post : Windows → ℕ → Bool
 may_post w t = (w.phase == 0) && nat_lt t (length w.taken) && not (has_tile w.posts t)
 
 -- a tile posts
-unfoldable pub posted : Windows → ℕ → Option Windows
-posted w t = when (may_post w t) (Some (record w { posts = bit_or (2 ^ t) w.posts }))
+unfoldable pub after_post : Windows → ℕ → Option Windows
+after_post w t = when (may_post w t) (Some (record w { posts = bit_or (2 ^ t) w.posts }))
 
 -- the window ends: its vector is the set of all that posted
 abbrev pub window_closed : Windows → Windows
@@ -32,8 +32,8 @@ abbrev pub is_last_tick : ℕ → Windows → Bool
 is_last_tick ticks w = w.phase + 1 == ticks
 
 -- a tick is only in a window in which a tile posted
-unfoldable pub ticked : ℕ → Windows → Option Windows
-ticked ticks w = when (nat_lt 0 w.posts) (Some (
+unfoldable pub after_tick : ℕ → Windows → Option Windows
+after_tick ticks w = when (nat_lt 0 w.posts) (Some (
     if is_last_tick ticks w then window_closed w else record w { phase = w.phase + 1 }))
 
 -- the vector that the tick closes
@@ -45,5 +45,5 @@ unfoldable pub next_vector : Windows → ℕ → Option ℕ
 next_vector w t = slice_get w.taken t >>= slice_get w.closed
 
 -- a tile takes the next closed vector
-unfoldable pub taken_by : Windows → ℕ → Option Windows
-taken_by w t = slice_get w.taken t >>= (λ count. slice_get w.closed count >>= (λ vector. Some (record w { taken = set w.taken t (count + 1) })))
+unfoldable pub after_take : Windows → ℕ → Option Windows
+after_take w t = slice_get w.taken t >>= (λ count. slice_get w.closed count >>= (λ vector. Some (record w { taken = set w.taken t (count + 1) })))

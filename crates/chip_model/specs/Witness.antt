@@ -13,7 +13,7 @@ abbrev pub is_before : Access → Access → Bool
 is_before a b =
     nat_lt a.time b.time || ((a.time == b.time) && (nat_lt a.tile b.tile || ((a.tile == b.tile) && nat_lt a.number b.number)))
 
--- the accesses with one more at its place: behind those that come before it
+-- the accesses with one more at its place: after those that come before it
 abbrev pub inserted : Access → List Access → List Access
 inserted a [] = a ∷ []
 inserted a (b ∷ rest) = if is_before b a then b ∷ inserted a rest else a ∷ b ∷ rest
@@ -36,10 +36,10 @@ abbrev pub writes_by : ℕ → ℕ → Access → Bool
 writes_by line place access = is_write access && (line_of access.address == line) && nat_le access.time place
 
 -- the words of a line after one of its writes
-abbrev pub written : List ℕ → Access → List ℕ
-written words access = set words (word_of access.address) access.value
+abbrev pub with_write : List ℕ → Access → List ℕ
+with_write words access = set words (word_of access.address) access.value
 
 -- the words of a line at a place of the order: what the writes up to it make of the words before the first step
 unfoldable pub line_value : Doc → List Access → ℕ → ℕ → List ℕ
 line_value d accesses line place =
-    fold written (words_at d.memory line) (filter (writes_by line place) (in_sequence accesses))
+    fold with_write (words_at d.memory line) (filter (writes_by line place) (in_sequence accesses))

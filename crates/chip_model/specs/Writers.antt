@@ -58,7 +58,7 @@ abbrev pub WritersFit : List Request → Node → Type 0
 WritersFit ordered node = (line : ℕ) (held : Held) → lookup node.chip node.side.cache line ≡ Some held → writer_for node held (writer line (delivered_to ordered node))
 
 -- a tile has no write to a line still to come with a time up to a place: it has delivered its GetM for the line at the
--- places below, an ordered one that has not completed stands at the place or behind it, and where it has the only copy
+-- places below, an ordered one that has not completed stands at the place or after it, and where it has the only copy
 -- its count is beyond the place
 pub record IsSettled (ordered : List Request) (node : Node) (line place : ℕ) : Type 0 where
   pub delivered : (g : ℕ) (q : Request) → g < place → slice_get ordered g ≡ Some q → q.line ≡ line → q.kind ≡ GetM → q.source ≡ node.tile → g < node.delivered

@@ -26,7 +26,7 @@ delivered_within chip net t fits inside =
     let here : t < length net.interfaces = let same = fits.interfaces in omega arith in
     rw (count_at net t here) ((fits.agree t (get_or net.interfaces t nobody) (slice_get-get_or net.interfaces t nobody here)).within)
 
--- the lists from a tile on: its own, and those behind it
+-- the lists from a tile on: its own, and those after it
 pub next_list : (chip : Chip) (net : OrderedNetwork) (t : ℕ) → NetworkFits chip net → t < tile_count chip
     → drop t (delivered_lists net) ≡ sources (take (slice_index (delivered_counts net) t) net.ordered) ∷ drop (t + 1) (delivered_lists net)
 next_list chip net t fits inside =
@@ -36,7 +36,7 @@ next_list chip net t fits inside =
     drop_more (delivered_lists net) t [] (omega (arith, length-map net.interfaces (sources_delivered net)))
     ∙ ap (λ (list : List ℕ). list ∷ drop (t + 1) (delivered_lists net)) list_is
 
--- the lines from a tile on: its own, and those behind it
+-- the lines from a tile on: its own, and those after it
 pub next_line : (chip : Chip) (net : OrderedNetwork) (t : ℕ) (delivered : List Request) → NetworkFits chip net → t < tile_count chip → delivered ≡ take (slice_index (delivered_counts net) t) net.ordered
     → lines_from t (drop t (delivered_lists net)) ≡ tile_line t (sources delivered) ++ lines_from (t + 1) (drop (t + 1) (delivered_lists net))
 next_line chip net t delivered fits inside is =

@@ -4,7 +4,7 @@ use Rattle.std.specs.Prelude.{slice_get, slice_index, slice_set}
 use Rattle.std.proofs.lemmas.Bool.{cases_eq, cases_lt}
 use Rattle.std.proofs.lemmas.List.{get_or-set_same, get_or-set_other, get_or_past}
 use Rattle.std.proofs.lemmas.Option.{same_Some}
-use Rattle.order_tracker.specs.Tracker.{TrackerState, left_of, next_of}
+use Rattle.order_tracker.specs.Tracker.{TrackerState, left_of, next_request_of}
 
 -- the next request heads what is left, and has the number of the used ones of its source
 pub record Heads (source number : ℕ) (s : TrackerState) : Type 0 where
@@ -20,7 +20,7 @@ headed (x ∷ left) count source number is =
     let number_is : number ≡ count x = ap (λ (p : ℕ × ℕ). p.1) same in
     (ap (λ (y : ℕ). y ∷ left) (sym source_is), ap count source_is ∙ sym number_is)
 
-pub heads : (s : TrackerState) (source number : ℕ) → Some (source, number) ≡ next_of s → Heads source number s
+pub heads : (s : TrackerState) (source number : ℕ) → Some (source, number) ≡ next_request_of s → Heads source number s
 heads s source number is =
     let both = headed (left_of s) (slice_index s.used) source number is in
     record { left = both.0; count = both.1 }

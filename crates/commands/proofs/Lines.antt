@@ -6,7 +6,7 @@ use Rattle.std.proofs.lemmas.List.{append-nil}
 use Rattle.outside_io.specs.Streams.{Appends, AppendsPart}
 use Rattle.outside_io.proofs.Pieces.{Appends-nothing, Appends-then}
 use Rattle.commands.specs.Entries.{entry_text, entries_text, has_begun, rest_text}
-use Rattle.commands.specs.Line.{line_of}
+use Rattle.commands.specs.Line.{numbers_line}
 
 -- numbers after others
 pub entries_text-append : (begun : Bool) (xs ys : List ℕ) → entries_text begun (xs ++ ys) ≡ entries_text begun xs ++ entries_text (has_begun begun xs) ys
@@ -29,9 +29,9 @@ joined x [] = sym (append-nil (decimal x))
 joined x (y ∷ xs) = ap (λ (t : List ℕ). decimal x ++ (32 ∷ t)) (joined y xs)
 
 -- the line before its first number
-pub line_of-rest : (numbers : List ℕ) → line_of numbers ≡ rest_text false numbers
-line_of-rest [] = refl
-line_of-rest (x ∷ xs) = ap (λ (t : List ℕ). t ++ codes "\n") (joined x xs)
+pub numbers_line-rest : (numbers : List ℕ) → numbers_line numbers ≡ rest_text false numbers
+numbers_line-rest [] = refl
+numbers_line-rest (x ∷ xs) = ap (λ (t : List ℕ). t ++ codes "\n") (joined x xs)
 
 pub begun_stays : (numbers : List ℕ) → has_begun true numbers ≡ true
 begun_stays [] = refl

@@ -6,9 +6,9 @@ use Rattle.order_tracker.specs.Order.{order}
 use Rattle.doc_text.specs.Doc.{Doc}
 
 -- numbers on a line, with a space between each two
-abbrev pub line_of : List ℕ → List ℕ
-line_of numbers = join_with_byte 32 (map decimal numbers) ++ codes "\n"
+abbrev pub numbers_line : List ℕ → List ℕ
+numbers_line numbers = join_with_byte 32 (map decimal numbers) ++ codes "\n"
 
--- the order of what a description posts, where each window's vector is the set of the tiles that post in it
+-- the order of what a document posts, where each window's vector is the set of the tiles that post in it
 abbrev pub order_text : Doc → List ℕ
-order_text doc = line_of (order (doc.cols * doc.rows) (map set_of doc.posts))
+order_text doc = numbers_line (order (doc.cols * doc.rows) (map set_of doc.posts))

@@ -21,7 +21,7 @@ WroteSome IsText sink (Err WriteFault) = ((text : List ℕ) × IsText text × Ap
 WroteSome IsText sink (Err NoMemory) = sink.new ≡ sink.old
 WroteSome IsText sink (Err _) = ⊥
 
--- of a command that reads a description and writes its text: what was written, and the cause of each refusal
+-- of a command that reads a document and writes its text: what was written, and the cause of each refusal
 abbrev pub Ran : Command → Stream → Stream → Result Unit Stop → Type 0
 Ran command source sink (Ok done) = WritesFor command source.old sink.old sink.new
 Ran command source sink (Err Usage) = ⊥

@@ -12,7 +12,7 @@ read_stop ReadFailed = ReadFault
 read_stop PastLimit = TooLong
 read_stop NoneToRead = NoMemory
 
--- the same cause, where the input is no description
+-- the same cause, where the input is no document
 abbrev pub doc_stop : DocEnd → Stop
 doc_stop (Fault fault) = Document fault
 doc_stop NoneToParse = NoMemory

@@ -10,12 +10,12 @@ use Rattle.commands.specs.Line.{order_text}
 use Rattle.commands.specs.Deliveries.{IsDelivered}
 
 -- the arguments of a command
-abbrev pub words_of : Command → List (List ℕ)
-words_of Order = codes "order" ∷ []
-words_of Show = codes "show" ∷ []
-words_of Deliver = codes "deliver" ∷ []
+abbrev pub argument_of : Command → List (List ℕ)
+argument_of Order = codes "order" ∷ []
+argument_of Show = codes "show" ∷ []
+argument_of Deliver = codes "deliver" ∷ []
 
--- the canonical text of a description, which is read back as the same description
+-- the canonical text of a document, which is read back as the same document
 pub record IsShown (doc : Doc) (text : List ℕ) : Type 0 where
   pub canonical_is : text ≡ canonical doc
   pub read_back : reading text ≡ Ok doc

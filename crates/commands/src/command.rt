@@ -1,7 +1,7 @@
 ghost use Rattle.std.specs.Prelude.{◌≡◌, ◌≢◌, map, IfSome, IfNone};
 ghost use Rattle.outside_io.specs.Streams.{stream};
 ghost use Rattle.doc_text.specs.Doc.{doc_of};
-ghost use Rattle.commands.specs.Texts.{words_of, named, IsTextOf};
+ghost use Rattle.commands.specs.Texts.{argument_of, named, IsTextOf};
 ghost use Rattle.commands.specs.Outcome.{Ran, WroteSome};
 ghost use Rattle.commands.specs.declared.command.Command.{Command};
 
@@ -19,19 +19,19 @@ const INPUT_LIMIT: u32 = 1 << 20;
 /// What the program is told to do.
 #[derive(Clone, Copy, Debug, PartialEq, Eq)]
 pub enum Command {
-    /// Writes the order of the requests that the description posts.
+    /// Writes the order of the requests that the document posts.
     Order,
-    /// Writes the description in its canonical text.
+    /// Writes the document in its canonical text.
     Show,
-    /// Broadcasts the requests that the description posts, and writes what each tile delivers.
+    /// Broadcasts the requests that the document posts, and writes what each tile delivers.
     Deliver,
 }
 
 impl Command {
     /// The command that the arguments name, where they are one of the forms.
     pub fn of(words: &[&str]) -> Option<Command>
-        ensures some { IfSome result (λ command. map (λ word. word.now) words.now ≡ words_of command) }
-        ensures none { IfNone result ((command : Command) → map (λ word. word.now) words.now ≢ words_of command) }
+        ensures some { IfSome result (λ command. map (λ word. word.now) words.now ≡ argument_of command) }
+        ensures none { IfNone result ((command : Command) → map (λ word. word.now) words.now ≢ argument_of command) }
     {
         match words {
             [word] => Command::named(word),
@@ -54,7 +54,7 @@ impl Command {
         }
     }
 
-    /// Reads a description to its end, and writes what the command wants of it.
+    /// Reads a document to its end, and writes what the command wants of it.
     pub fn run<S: Source, K: Sink>(
         self,
         alloc: Global,
@@ -69,7 +69,7 @@ impl Command {
         self.write(alloc, &document, sink)
     }
 
-    // A text of the command for a description.
+    // A text of the command for a document.
     fn write<K: Sink>(self, alloc: Global, document: &Document, sink: &mut K) -> Result<(), Stop>
         ensures { WroteSome (IsTextOf self (doc_of document.now)) (stream K.held K.faults sink.old sink.new) result }
     {

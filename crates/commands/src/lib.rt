@@ -1,4 +1,4 @@
-//! What each command writes of a description, and why a command ends before its whole text was written.
+//! What each command writes of a document, and why a command ends before its whole text was written.
 #![tactic(auto)]
 
 mod command;

@@ -8,7 +8,7 @@ ghost use Rattle.order_tracker.specs.Tracker.{left_of};
 ghost use Rattle.outside_io.specs.Streams.{stream, Rose, Appends, AppendsPart};
 ghost use Rattle.doc_text.specs.Doc.{doc_of};
 ghost use Rattle.commands.specs.Entries.{entries_text, has_begun, rest_text};
-ghost use Rattle.commands.specs.Line.{line_of, order_text};
+ghost use Rattle.commands.specs.Line.{numbers_line, order_text};
 ghost use Rattle.commands.specs.Outcome.{Wrote};
 
 use crate::Stop;
@@ -49,8 +49,8 @@ fn write_line<K: Sink>(
     requires new { (tracker.old.windows ≡ []) × (tracker.old.number ≡ 0) × ((t : ℕ) → slice_index tracker.old.used t ≡ 0) × (0 < tracker.old.room) }
     requires posts { AllByRecursion (AreTiles tracker.old.tiles) posts.now }
     requires count { length posts.now ≤ 4096 }
-    ensures ok { IfOk result (λ _. Appends (K.held sink.old) (K.held sink.new) (line_of (order_from tracker.old.tiles 0 (map set_of posts.now)))) }
-    ensures err { OnErr result (AppendsPart (K.held sink.old) (K.held sink.new) (line_of (order_from tracker.old.tiles 0 (map set_of posts.now)))) }
+    ensures ok { IfOk result (λ _. Appends (K.held sink.old) (K.held sink.new) (numbers_line (order_from tracker.old.tiles 0 (map set_of posts.now)))) }
+    ensures err { OnErr result (AppendsPart (K.held sink.old) (K.held sink.new) (numbers_line (order_from tracker.old.tiles 0 (map set_of posts.now)))) }
     ensures fault { OnErr result (Rose (K.faults sink.old) (K.faults sink.new)) }
 {
     let mut begun = false;

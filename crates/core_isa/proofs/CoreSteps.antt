@@ -5,7 +5,7 @@ use Rattle.std.proofs.lemmas.Option.{same_Some, option_and_then_some}
 use Rattle.core_isa.specs.declared.instr.Instr.{Instr}
 use Rattle.core_isa.specs.declared.instr.Instr.TheVariants.{Li, Add, Sub, Addi, Ld, St, Swap, Fadd, Beq, Bne, Jmp, Tid, Halt}
 use Rattle.core_isa.specs.declared.next.Next.TheVariants as next
-use Rattle.core_isa.specs.Core.{CoreState, Effect, Becomes, Loads, Stores, Swaps, Adds, Halts, becomes, effect_of, instr_at, next_of, stepped, advanced, loaded, with_result, kind_of, received, DidMore}
+use Rattle.core_isa.specs.Core.{CoreState, Effect, Becomes, Loads, Stores, Swaps, Adds, Halts, becomes, effect_of, instr_at, next_of, stepped, advanced, loaded, with_result, next_kind, received, DidMore}
 
 one_more : (x core new : CoreState) → DidMore 1 core x → Some x ≡ Some new → DidMore 1 core new
 one_more x core new h e = subst (DidMore 1 core) (same_Some x new e) h
@@ -72,7 +72,7 @@ advanced-add program m zero core =
 advanced-add program m (suc n) core =
     ap (λ (k : ℕ). advanced program k core) (add-suc m n) ∙ (ap (option_and_then (stepped program)) (advanced-add program m n core) ∙ one_after program n (advanced program m core))
 
-can_step_by : (effect : Effect) → (kind_of effect ≡ next.Register) ↔ IsSome (becomes effect)
+can_step_by : (effect : Effect) → (next_kind effect ≡ next.Register) ↔ IsSome (becomes effect)
 can_step_by (Becomes core) = (λ _. refl, λ _. refl)
 can_step_by (Loads rd address) = (λ e. cc, λ h. cc)
 can_step_by (Stores address value) = (λ e. cc, λ h. cc)
@@ -84,7 +84,7 @@ pub can_step : (program : List Instr) (core : CoreState) → (next_of program co
 unfolding next_of stepped
 can_step program core = can_step_by (effect_of (instr_at program core.place) core)
 
-loaded_by : (effect : Effect) (core : CoreState) (rd address value : ℕ) → kind_of effect ≡ next.Load rd address → received effect value core ≡ with_result rd value core
+loaded_by : (effect : Effect) (core : CoreState) (rd address value : ℕ) → next_kind effect ≡ next.Load rd address → received effect value core ≡ with_result rd value core
 loaded_by (Becomes new) core rd address value e = cc
 loaded_by (Loads r a) core rd address value e = let same : r ≡ rd = cc in ap (λ (x : ℕ). with_result x value core) same
 loaded_by (Stores a v) core rd address value e = cc
@@ -97,7 +97,7 @@ unfolding next_of loaded
 loaded-at program core rd address value e =
     loaded_by (effect_of (instr_at program core.place) core) core rd address value e
 
-swapped_by : (effect : Effect) (core : CoreState) (rd address value word : ℕ) → kind_of effect ≡ next.Swap rd address value → received effect word core ≡ with_result rd word core
+swapped_by : (effect : Effect) (core : CoreState) (rd address value word : ℕ) → next_kind effect ≡ next.Swap rd address value → received effect word core ≡ with_result rd word core
 swapped_by (Becomes new) core rd address value word e = cc
 swapped_by (Loads r a) core rd address value word e = cc
 swapped_by (Stores a v) core rd address value word e = cc
@@ -110,7 +110,7 @@ unfolding next_of loaded
 swapped-at program core rd address value word e =
     swapped_by (effect_of (instr_at program core.place) core) core rd address value word e
 
-added_by : (effect : Effect) (core : CoreState) (rd address value word : ℕ) → kind_of effect ≡ next.Add rd address value → received effect word core ≡ with_result rd word core
+added_by : (effect : Effect) (core : CoreState) (rd address value word : ℕ) → next_kind effect ≡ next.Add rd address value → received effect word core ≡ with_result rd word core
 added_by (Becomes new) core rd address value word e = cc
 added_by (Loads r a) core rd address value word e = cc
 added_by (Stores a v) core rd address value word e = cc

@@ -9,14 +9,14 @@ use Rattle.std.proofs.lemmas.Fmt.{decimal_digit, digits_decimal, digits_value-de
 use Rattle.core_isa.specs.declared.instr.Instr.{Instr}
 use Rattle.core_isa.specs.declared.instr.Instr.TheVariants.{Li, Add, Sub, Addi, Ld, St, Swap, Fadd, Beq, Bne, Jmp, Tid, Halt}
 use Rattle.core_isa.specs.Program.{IsWithin, limit}
-use Rattle.core_isa.specs.Lines.{Line, is_label, is_line_feed, line_of}
+use Rattle.core_isa.specs.Lines.{Line, is_label, is_line_feed, source_line}
 use Rattle.core_isa.specs.Opcodes.{Shape, Register, Number, Target, form_of, opcode_named, opcode_of, operands_of, instr_with}
-use Rattle.core_isa.specs.Operands.{Scope, is_operand, operand_value, kind_of}
+use Rattle.core_isa.specs.Operands.{Scope, is_operand, operand_value, fault_kind}
 use Rattle.core_isa.specs.Assembly.{first_failing, operand_values, fault_of, instr_of}
 use Rattle.core_isa.specs.Printing.{operand_text, text_of}
 use Rattle.core_isa.specs.Reading.{IsValue, AreValues}
 use Rattle.core_isa.proofs.Digits.{numerals, and_true-left, and_true-right}
-use Rattle.core_isa.proofs.Words.{IsWord, spaced, plain_line, line_of-spaced, one_line}
+use Rattle.core_isa.proofs.Words.{IsWord, spaced, plain_line, source_line-spaced, one_line}
 
 -- an instruction is made of its opcode and its operands
 pub instr_with-operands : (i : Instr) → instr_with (opcode_of i) (operands_of i) ≡ i
@@ -108,7 +108,7 @@ plain_digits (byte ∷ rest) e = (plain_digit byte (and_true-left _ _ e), plain_
 decimal_word : (n : ℕ) → n < 2 ^ 64 → IsWord (decimal n)
 decimal_word n small = record { filled = decimal_nonempty n small; plain = plain_digits (decimal n) (digits_decimal numerals n small) }
 
--- a byte and a number behind it
+-- a byte and a number after it
 marked_word : (mark n : ℕ) → 36 ≤ mark → n < 2 ^ 64 → IsWord (mark ∷ decimal n)
 marked_word mark n h small = record { filled = omega arith; plain = (h, (decimal_word n small).plain) }
 
@@ -138,7 +138,7 @@ texts_of shapes values = map (λ p. operand_text p.0 p.1) (zip shapes values)
 -- the printed operands have no fault and these values
 record AreRead (whole : Scope) (shapes : List Shape) (values : List ℕ) (texts : List (List ℕ)) : Type 0 where
   counted : length texts ≡ length shapes
-  faultless : first_failing (map (λ p. record { fails = not (is_operand whole p.0 p.1); kind = kind_of p.0 }) (zip shapes texts)) ≡ None
+  faultless : first_failing (map (λ p. record { fails = not (is_operand whole p.0 p.1); kind = fault_kind p.0 }) (zip shapes texts)) ≡ None
   valued : operand_values whole shapes texts ≡ values
   words : AllByRecursion IsWord texts
 
@@ -183,8 +183,8 @@ words_plain len i le h = (operands_again (nowhere len) (form_of (opcode_of i)).s
 pub body_line : (len : ℕ) (i : Instr) → len ≤ limit → IsWithin len i → All (λ byte. is_line_feed byte ≡ false) (body_of i)
 body_line len i le h = one_line (form_of (opcode_of i)).word (words_in i) (word_word i) (words_plain len i le h)
 
-pub line_of-body : (len : ℕ) (i : Instr) → len ≤ limit → IsWithin len i → line_of (body_of i) ≡ line_in i
-line_of-body len i le h = line_of-spaced (form_of (opcode_of i)).word (words_in i) (word_word i) (words_plain len i le h) (is_label-word i)
+pub source_line-body : (len : ℕ) (i : Instr) → len ≤ limit → IsWithin len i → source_line (body_of i) ≡ line_in i
+source_line-body len i le h = source_line-spaced (form_of (opcode_of i)).word (words_in i) (word_word i) (words_plain len i le h) (is_label-word i)
 
 -- the line has no fault where the program has room for it
 pub fault_of-line_in : (whole before : Scope) (i : Instr) → whole.count ≤ limit → IsWithin whole.count i → before.count < limit → fault_of whole before (line_in i) ≡ None

@@ -7,25 +7,25 @@ use Rattle.core_isa.specs.declared.fault.AsmKind.{AsmKind}
 use Rattle.core_isa.specs.declared.fault.AsmFault.{AsmFault}
 use Rattle.core_isa.specs.declared.instr.Instr.{Instr}
 use Rattle.core_isa.specs.Program.{IsProgram, IsWithin, limit}
-use Rattle.core_isa.specs.Lines.{Line, is_white, is_line_feed, words_of, line_of, lines_of, lines_with, has_instruction, instruction_count}
+use Rattle.core_isa.specs.Lines.{Line, is_white, is_line_feed, words_of, source_line, lines_of, lines_with, has_instruction, instruction_count}
 use Rattle.core_isa.specs.Operands.{Scope, scope_of}
-use Rattle.core_isa.specs.Assembly.{assembled, fault_of, fault_or, outcome, first_fault, instr_of, program_of}
+use Rattle.core_isa.specs.Assembly.{assembled, fault_of, fault_or, outcome, first_fault, instr_of, program_of_lines}
 use Rattle.core_isa.specs.Printing.{program_text}
 use Rattle.core_isa.proofs.Scopes.{counted, instruction_count-cons, instruction_count-push}
 use Rattle.core_isa.proofs.Words.{plain_line}
 use Rattle.core_isa.proofs.Progress.{first_fault-cons}
-use Rattle.core_isa.proofs.Printed.{body_of, line_in, text_of-body, body_line, line_of-body, fault_of-line_in, instr_of-line_in}
+use Rattle.core_isa.proofs.Printed.{body_of, line_in, text_of-body, body_line, source_line-body, fault_of-line_in, instr_of-line_in}
 
--- the line behind the last line feed
+-- the line after the last line feed
 abbrev last_line : Line
 last_line = plain_line []
 
 abbrev lines_in : List Instr → List Line
 lines_in instrs = map line_in instrs ++ last_line ∷ []
 
-line_of-nothing : line_of [] ≡ last_line
+source_line-nothing : source_line [] ≡ last_line
 unfolding words_of is_white
-line_of-nothing = refl
+source_line-nothing = refl
 
 split_program : (len : ℕ) (instrs : List Instr) → len ≤ limit → AllByRecursion (IsWithin len) instrs → slice_split is_line_feed (program_text instrs) ≡ map body_of instrs ++ [] ∷ []
 split_program len [] le h = refl
@@ -34,9 +34,9 @@ split_program len (i ∷ instrs) le h =
     ∙ slice_split_at is_line_feed (body_of i) 10 (program_text instrs) (body_line len i le h.0) refl ∙ ap (λ (parts : List (List ℕ)). body_of i ∷ parts) (split_program len instrs le h.1)
 
 lines_with-bodies : (len : ℕ) (instrs : List Instr) → len ≤ limit → AllByRecursion (IsWithin len) instrs → lines_with (map body_of instrs ++ [] ∷ []) ≡ lines_in instrs
-lines_with-bodies len [] le h = ap (λ (line : Line). line ∷ []) line_of-nothing
+lines_with-bodies len [] le h = ap (λ (line : Line). line ∷ []) source_line-nothing
 lines_with-bodies len (i ∷ instrs) le h =
-    ap (λ (line : Line). line ∷ lines_with (map body_of instrs ++ [] ∷ [])) (line_of-body len i le h.0) ∙ ap (λ (lines : List Line). line_in i ∷ lines) (lines_with-bodies len instrs le h.1)
+    ap (λ (line : Line). line ∷ lines_with (map body_of instrs ++ [] ∷ [])) (source_line-body len i le h.0) ∙ ap (λ (lines : List Line). line_in i ∷ lines) (lines_with-bodies len instrs le h.1)
 
 lines_of-program : (len : ℕ) (instrs : List Instr) → len ≤ limit → AllByRecursion (IsWithin len) instrs → lines_of (program_text instrs) ≡ lines_in instrs
 lines_of-program len instrs le h = ap lines_with (split_program len instrs le h) ∙ lines_with-bodies len instrs le h
@@ -80,6 +80,6 @@ round_trip instrs p =
     let count = instruction_count-lines_in instrs in
     let le : whole.count ≤ limit = omega (arith, count, p.limited) in
     let within = subst (λ (n : ℕ). AllByRecursion (IsWithin n) instrs) (sym count) p.within in
-    ap program_of (lines_of-program (length instrs) instrs p.limited p.within)
+    ap program_of_lines (lines_of-program (length instrs) instrs p.limited p.within)
     ∙ ap (λ (found : Option AsmFault). outcome found (filter_map (instr_of whole) (lines_in instrs))) (no_fault whole [] instrs le within (omega (arith, p.limited)))
     ∙ ap (λ (is : List Instr). Ok is) (instrs_again whole instrs le within)

@@ -31,7 +31,7 @@ instruction_count-cons line lines = sum_by-cons (λ l. cond (has_instruction l) 
 pub instruction_count-push : (lines : List Line) (line : Line) → instruction_count (lines ++ line ∷ []) ≡ counted (has_instruction line) (instruction_count lines)
 instruction_count-push lines line = sum_by_push (λ l. cond (has_instruction l) 1 0) lines line ∙ one_behind (has_instruction line) (instruction_count lines)
 
--- the place behind the first line, and the instructions of the rest
+-- the place after the first line, and the instructions of the rest
 behind_first : (place : ℕ) (first : Line) (rest : List Line) → counted (has_instruction first) place + instruction_count rest ≡ place + instruction_count (first ∷ rest)
 behind_first place first rest = counted-add (has_instruction first) place (instruction_count rest) ∙ ap (λ (n : ℕ). place + n) (sym (instruction_count-cons first rest))
 

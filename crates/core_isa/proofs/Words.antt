@@ -1,4 +1,4 @@
--- Words with blanks between them, read again.
+-- Words with spaces between them, read again.
 use Rattle.std.proofs.Common.{◌≡◌, ℕ, ◌<◌, ◌≤◌, true, false, not, List, [], ◌∷◌, ◌++◌, length, take, All, None, refl, ap, ◌∙◌, arith}
 use Rattle.std.specs.List.{filter, flat_map, slice_split, before_first, prefix_len, AllByRecursion}
 use Rattle.std.proofs.Math.Seq.{take-length}
@@ -6,7 +6,7 @@ use Rattle.std.proofs.lemmas.Bool.{ne_eqb}
 use Rattle.std.proofs.lemmas.List.{append-nil}
 use Rattle.std.proofs.lemmas.List.Elements.{All-from_recursion}
 use Rattle.std.proofs.lemmas.List.Splits.{slice_split_none, slice_split_at}
-use Rattle.core_isa.specs.Lines.{Line, is_white, is_comment_sign, is_line_feed, is_filled, words_of, is_label, line_of, line_with}
+use Rattle.core_isa.specs.Lines.{Line, is_white, is_comment_sign, is_line_feed, is_filled, words_of, is_label, source_line, line_with}
 
 -- bytes from 36 on are those of words here: white space, line feeds and `#` are below
 pub record IsWord (word : List ℕ) : Type 0 where
@@ -75,5 +75,5 @@ unlabelled : (word : List ℕ) (words : List (List ℕ)) → is_label word ≡ f
 unlabelled word words e = rw e refl
 
 -- the line of words of which the first is no label
-pub line_of-spaced : (word : List ℕ) (words : List (List ℕ)) → IsWord word → AllByRecursion IsWord words → is_label word ≡ false → line_of (spaced word words) ≡ plain_line (word ∷ words)
-line_of-spaced word words w ws e = ap line_with (words_of-spaced word words w ws) ∙ unlabelled word words e
+pub source_line-spaced : (word : List ℕ) (words : List (List ℕ)) → IsWord word → AllByRecursion IsWord words → is_label word ≡ false → source_line (spaced word words) ≡ plain_line (word ∷ words)
+source_line-spaced word words w ws e = ap line_with (words_of-spaced word words w ws) ∙ unlabelled word words e

@@ -12,7 +12,7 @@ use Rattle.core_isa.specs.declared.opcode.Opcode.{Opcode}
 use Rattle.core_isa.specs.Program.{limit}
 use Rattle.core_isa.specs.Lines.{Line, lines_of, is_name}
 use Rattle.core_isa.specs.Opcodes.{Shape, form_of, opcode_named, instr_with}
-use Rattle.core_isa.specs.Operands.{Scope, scope_of, is_operand, kind_of, operand_value}
+use Rattle.core_isa.specs.Operands.{Scope, scope_of, is_operand, fault_kind, operand_value}
 
 -- what may be wrong with a line, and the kind of that fault
 pub record Check : Type 0 where
@@ -35,7 +35,7 @@ label_checks before (Some name) =
 abbrev pub operand_checks : Scope → List Shape → List (List ℕ) → List Check
 operand_checks whole shapes operands =
     record { fails = not (length operands == length shapes); kind = Count } ∷
-    map (λ p. record { fails = not (is_operand whole p.0 p.1); kind = kind_of p.0 }) (zip shapes operands)
+    map (λ p. record { fails = not (is_operand whole p.0 p.1); kind = fault_kind p.0 }) (zip shapes operands)
 
 -- the word is unknown; or else: the program has as many instructions as it may have; the operands
 abbrev pub opcode_checks : Scope → Scope → Option Opcode → List (List ℕ) → List Check
@@ -68,7 +68,7 @@ instr_of whole line = instr_of_words whole line.words
 abbrev pub fault_at : ℕ → AsmKind → AsmFault
 fault_at line kind = record { line = line; kind = kind }
 
--- the fault of a line, or else the first of the lines behind it
+-- the fault of a line, or else the first of the lines after it
 abbrev pub fault_or : Option AsmKind → ℕ → Option AsmFault → Option AsmFault
 fault_or (Some kind) line behind = Some (fault_at line kind)
 fault_or None line behind = behind
@@ -84,15 +84,15 @@ outcome (Some fault) instrs = Err fault
 outcome None instrs = Ok instrs
 
 -- the instructions of the lines, where no line has a fault
-abbrev pub program_of : List Line → Result (List Instr) AsmFault
-program_of lines =
+abbrev pub program_of_lines : List Line → Result (List Instr) AsmFault
+program_of_lines lines =
     let whole = scope_of lines in
     outcome (first_fault whole [] lines) (filter_map (instr_of whole) lines)
 
 unfoldable pub assembled : List ℕ → Result (List Instr) AsmFault
-assembled text = program_of (lines_of text)
+assembled text = program_of_lines (lines_of text)
 
--- the fact holds of the fault, where it is one and not want of memory
+-- the fact holds of the fault, where it is one and not out of memory
 abbrev pub IfFault : (AsmFault → Type 0) → AsmEnd → Type 0
 IfFault P (Fault fault) = P fault
 IfFault P NoMemory = Unit {0}

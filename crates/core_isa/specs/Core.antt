@@ -84,17 +84,17 @@ is_halt Halt = true
 is_halt _ = false
 
 -- what kind of instruction this is
-abbrev pub kind_of : Effect → Next
-kind_of (Becomes core) = next.Register
-kind_of (Loads rd address) = next.Load rd address
-kind_of (Stores address value) = next.Store address value
-kind_of (Swaps rd address value) = next.Swap rd address value
-kind_of (Adds rd address value) = next.Add rd address value
-kind_of Halts = next.Halted
+abbrev pub next_kind : Effect → Next
+next_kind (Becomes core) = next.Register
+next_kind (Loads rd address) = next.Load rd address
+next_kind (Stores address value) = next.Store address value
+next_kind (Swaps rd address value) = next.Swap rd address value
+next_kind (Adds rd address value) = next.Add rd address value
+next_kind Halts = next.Halted
 
 -- what the core is about to do
 unfoldable pub next_of : List Instr → CoreState → Next
-next_of program core = kind_of (effect_of (instr_at program core.place) core)
+next_of program core = next_kind (effect_of (instr_at program core.place) core)
 
 -- a load is next
 abbrev pub is_load : Next → Bool

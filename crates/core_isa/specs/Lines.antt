@@ -11,7 +11,7 @@ is_line_feed byte = byte == 10
 abbrev pub is_comment_sign : ℕ → Bool
 is_comment_sign byte = byte == 35
 
--- a blank, a tab or a carriage return divides words
+-- a space, a tab or a carriage return divides words
 unfoldable pub is_white : ℕ → Bool
 is_white byte = byte == 32 || byte == 9 || byte == 13
 
@@ -41,11 +41,11 @@ line_with (word ∷ words) =
     then record { label = Some (label_of word); words = words }
     else record { label = None; words = word ∷ words }
 
-abbrev pub line_of : List ℕ → Line
-line_of raw = line_with (words_of raw)
+abbrev pub source_line : List ℕ → Line
+source_line raw = line_with (words_of raw)
 
 abbrev pub lines_with : List (List ℕ) → List Line
-lines_with raws = map line_of raws
+lines_with raws = map source_line raws
 
 -- the lines of a text, from the first
 abbrev pub lines_of : List ℕ → List Line

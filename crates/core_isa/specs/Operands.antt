@@ -69,10 +69,10 @@ is_operand scope Number word = is_number word
 is_operand scope Target word = is_target scope word
 
 -- the kind of fault of an operand that is not
-abbrev pub kind_of : Shape → AsmKind
-kind_of Register = kind.Register
-kind_of Number = kind.Number
-kind_of Target = kind.Label
+abbrev pub fault_kind : Shape → AsmKind
+fault_kind Register = kind.Register
+fault_kind Number = kind.Number
+fault_kind Target = kind.Label
 
 abbrev pub operand_value : Scope → Shape → List ℕ → ℕ
 operand_value scope Register word = register_value word

@@ -1,4 +1,4 @@
--- The line of an instruction: its word and its operands, with one blank before each, and a line feed.
+-- The line of an instruction: its word and its operands, with one space before each, and a line feed.
 use Rattle.std.specs.Prelude.{ℕ, List, [], ◌∷◌, ◌++◌}
 use Rattle.std.specs.List.{zip, flat_map}
 use Rattle.std.specs.Fmt.{decimal}

@@ -7,7 +7,7 @@ use Rattle.core_isa.specs.declared.opcode.Opcode.{Opcode}
 use Rattle.core_isa.specs.Program.{IsRegister, IsNumber, IsWithin, limit}
 use Rattle.core_isa.specs.Lines.{Line, has_instruction, instruction_count}
 use Rattle.core_isa.specs.Opcodes.{Shape, Register, Number, Target, form_of, instr_with}
-use Rattle.core_isa.specs.Operands.{Scope, is_operand, operand_value, kind_of}
+use Rattle.core_isa.specs.Operands.{Scope, is_operand, operand_value, fault_kind}
 use Rattle.core_isa.specs.Assembly.{first_failing, operand_checks, operand_values, instruction_checks, instr_of_words, fault_of, instr_of, first_fault}
 
 -- each place in the scope is one of a program, and fits an instruction. Other texts have too many instructions, and so
@@ -32,7 +32,7 @@ AreValues len (shape ∷ shapes) (v ∷ vs) = IsValue len shape v × AreValues l
 abbrev pub ReadsOne : {X : Type 0} → (X → ℕ) → Scope → Shape → List ℕ → Result X AsmKind → Type 0
 ReadsOne value whole shape word r = MatchResult r
     (λ x. (is_operand whole shape word ≡ true) × (IsExact whole → (value x ≡ operand_value whole shape word) × IsValue whole.count shape (value x)))
-    (λ kind. (is_operand whole shape word ≡ false) × (kind ≡ kind_of shape))
+    (λ kind. (is_operand whole shape word ≡ false) × (kind ≡ fault_kind shape))
 
 -- the words are operands of these shapes with these values, or the fault is the first of their checks that fails
 abbrev pub Reads : {X : Type 0} → (X → List ℕ) → Scope → List Shape → List (List ℕ) → Result X AsmKind → Type 0

@@ -32,7 +32,7 @@ unfolding assembled first_fault fault_of instr_of words_of is_white opcode_named
 white = refl
 
 -- the end of the text is a place too, and numbers may begin with zeros;
--- a label on a line of its own names the instruction after it, and one behind the last names the end
+-- a label on a line of its own names the instruction after it, and one after the last names the end
 labels : Assembles (codes "wait: ld r1 r0 4" ++ lf ++ codes "beq r1 r0 wait" ++ lf ++ codes "jmp @005" ++ lf ++ codes "jmp end" ++ lf ++ codes "other:" ++ lf ++ codes "bne r1 r0 other" ++ lf ++ codes "end:") (Ld 1 0 4 ∷ Beq 1 0 0 ∷ Jmp 5 ∷ Jmp 5 ∷ Bne 1 0 4 ∷ [])
 unfolding assembled first_fault fault_of instr_of words_of is_white opcode_named
 labels = refl

@@ -127,7 +127,7 @@ fn instr_of_words<'a>(
     }
 }
 
-// The instruction whose first word is given, and which stands behind those of the lines before.
+// The instruction whose first word is given, and which stands after those of the lines before.
 fn instr_named<'a>(
     word: &'a [u8],
     operands: &[&'a [u8]],

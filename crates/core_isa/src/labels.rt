@@ -41,7 +41,7 @@ impl<'a> Labels<'a> {
         self.places.get(&name).copied()
     }
 
-    /// Adds a line behind those so far.
+    /// Adds a line after those so far.
     pub fn add(&mut self, line: &Line<'a>) -> Result<(), NoMemory>
         requires { self.old.count + 1 < 2 ^ 64 }
         ensures { OnOk result (scope_seen self.new

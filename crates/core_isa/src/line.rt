@@ -1,6 +1,6 @@
 ghost use Rattle.std.specs.Prelude.{◌≡◌, Some, None, IfOk, if◌then◌else◌};
 ghost use Rattle.std.specs.List.{before_first};
-ghost use Rattle.core_isa.specs.Lines.{is_comment_sign, is_label, label_of, line_of, line_with, words_of};
+ghost use Rattle.core_isa.specs.Lines.{is_comment_sign, is_label, label_of, source_line, line_with, words_of};
 ghost use Rattle.core_isa.specs.LineSeen.{texts_seen, label_seen, line_seen};
 
 use crate::word::is_white_byte;
@@ -15,7 +15,7 @@ pub(crate) struct Line<'a> {
 
 impl<'a> Line<'a> {
     pub fn read(alloc: Global, raw: &'a [u8]) -> Result<Line<'a>, AllocError>
-        ensures { IfOk result (λ line. line_seen line ≡ line_of raw.now) }
+        ensures { IfOk result (λ line. line_seen line ≡ source_line raw.now) }
     {
         let words = split_words(alloc, raw)?;
         Ok(take_label(words))

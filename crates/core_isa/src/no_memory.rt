@@ -1,4 +1,4 @@
 use std::alloc::AllocError;
 
-/// Memory is wanting.
+/// Out of memory.
 pub type NoMemory = AllocError;

@@ -7,7 +7,7 @@ ghost use Rattle.core_isa.specs.declared.fault.AsmKind.TheVariants.{Register, Nu
 
 use crate::AsmKind;
 
-/// A blank, a tab or a carriage return.
+/// A space, a tab or a carriage return.
 #[tactic(auto, unfolding(crate::specs::Lines::is_white))]
 pub(crate) fn is_white_byte(byte: u8) -> bool
     ensures { result ≡ is_white byte }

@@ -8,7 +8,7 @@ use Rattle.doc_text.specs.Keys.{row_of}
 use Rattle.core_isa.specs.declared.instr.Instr.{Instr}
 use Rattle.doc_text.specs.Canonical.{value_line, list_text, numbers_text, core_text, cores_text}
 
--- the first value behind a text, and each further one behind another
+-- the first value after a text, and each further one after another
 abbrev pub values_behind : List ℕ → List ℕ → List (List ℕ) → List ℕ
 values_behind before between [] = []
 values_behind before between (value ∷ values) = (before ++ value) ++ values_behind between between values
@@ -58,7 +58,7 @@ value_line-lists key (list ∷ rest) some =
     ∙ append_assoc (values_behind ((name ++ codes " = [") ++ codes "[") (codes "],[") values) (codes "]") (codes "]\n")
     ∙ ap (λ (before : List ℕ). values_behind before (codes "],[") values ++ codes "]]\n") (append_assoc name (codes " = [") (codes "["))
 
--- the texts of the items from a place on are that item's and those of the items behind it
+-- the texts of the items from a place on are that item's and those of the items after it
 pub flat_map-drop : {X : Type 0} (text : X → List ℕ) (items : List X) (at : ℕ) (default : X) → at < length items → flat_map text (drop at items) ≡ text (get_or items at default) ++ flat_map text (drop (at + 1) items)
 flat_map-drop text items at default within = ap (flat_map text) (drop_more items at default within)
 

@@ -33,7 +33,7 @@ padded_with (suc word) shown words padded =
     let count : suc (length words) - suc (length shown) ≡ length words - length shown = omega arith in
     rw count (ap (λ (rest : List ℕ). suc word ∷ rest) padded)
 
--- with zeros behind them the words that are shown are all words
+-- with zeros after them the words that are shown are all words
 pub shown_words-padded : (words : List ℕ) → shown_words words ++ replicate (length words - length (shown_words words)) 0 ≡ words
 shown_words-padded [] = refl
 shown_words-padded (word ∷ words) = padded_with word (shown_words words) words (shown_words-padded words)

@@ -1,4 +1,4 @@
--- The canonical text of a description, line by line.
+-- The canonical text of a document, line by line.
 use Rattle.std.specs.Prelude.{ℕ, zero, List, [], ◌∷◌, ◌++◌, map, codes, decimal}
 use Rattle.std.specs.List.{enumerate_from, flat_map, join_with_byte}
 use Rattle.core_isa.specs.declared.instr.Instr.{Instr}
@@ -45,7 +45,7 @@ sizes_text sizes = flat_map (λ size. value_line size.0 (decimal size.1)) sizes
 abbrev pub mesh_text : Doc → List ℕ
 mesh_text doc = table_line Mesh ++ sizes_text (sizes doc) ++ value_line Controllers (numbers_text doc.controllers)
 
--- a word of memory is shown where it is not 0 or some word behind it is shown
+-- a word of memory is shown where it is not 0 or some word after it is shown
 abbrev pub shown_with : ℕ → List ℕ → List ℕ
 shown_with zero [] = []
 shown_with word shown = word ∷ shown

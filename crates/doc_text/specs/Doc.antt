@@ -1,4 +1,4 @@
--- A description as plain data.
+-- A document as plain data.
 use Rattle.std.specs.Prelude.{ℕ, List}
 use Rattle.core_isa.specs.declared.instr.Instr.{Instr}
 use Rattle.doc_text.specs.declared.document.Document.{Document}
@@ -19,7 +19,7 @@ pub record Doc : Type 0 where
   pub programs : List (List Instr)
   pub posts : List (List ℕ)
 
--- the description as it is kept
+-- the document as it is kept
 abbrev pub doc_of : Document → Doc
 doc_of document = record {
   cols = document.mesh.cols;

@@ -1,4 +1,4 @@
--- The table of a description's keys.
+-- The table of a document's keys.
 use Rattle.std.specs.Prelude.{ℕ, List, [], ◌∷◌, codes}
 use Rattle.mesh_gen.specs.Limits.{most_side}
 use Rattle.doc_text.specs.declared.key.Level.{Level}

@@ -1,4 +1,4 @@
--- The limits of a description beside those of its mesh.
+-- The limits of a document beside those of its mesh.
 use Rattle.std.specs.Prelude.{ℕ, ◌≤◌, List, length}
 use Rattle.std.specs.List.{AllByRecursion}
 use Rattle.mesh_gen.specs.Limits.{AreTiles}

@@ -1,4 +1,4 @@
--- What is said of a faulty description.
+-- What is said of a faulty document.
 use Rattle.std.specs.Prelude.{ℕ, List, ◌++◌, codes, decimal}
 use Rattle.core_isa.specs.declared.fault.AsmKind.{AsmKind}
 use Rattle.core_isa.specs.declared.fault.AsmKind.TheVariants.{Word, Register, Number, Label, Count, Length}
@@ -9,7 +9,7 @@ use Rattle.doc_text.specs.declared.key.Level.TheVariants as level
 use Rattle.doc_text.specs.declared.key.Key.{Key}
 use Rattle.doc_text.specs.Keys.{row_of}
 
--- a name behind the key of its table
+-- a name after the key of its table
 abbrev pub name_under : Level → List ℕ → List ℕ
 name_under level.Top name = name
 name_under level.Mesh name = codes "mesh." ++ name

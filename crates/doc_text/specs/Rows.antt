@@ -1,4 +1,4 @@
--- Descriptions, and the text of each.
+-- Documents, and the text of each.
 use Rattle.std.specs.Prelude.{◌≡◌, ℕ, List, [], ◌∷◌, ◌++◌, map, codes, refl}
 use Rattle.std.specs.Fmt.{digits}
 use Rattle.core_isa.specs.declared.instr.Instr.TheVariants.{Li, Ld, St, Jmp, Halt}
@@ -40,7 +40,7 @@ one_tile_text : canonical one_tile ≡ line (codes "[mesh]") ++ line (codes "col
 unfolding digits
 one_tile_text = refl
 
--- four tiles with posts, two controllers out of order, zeros between words and behind them, and two programs
+-- four tiles with posts, two controllers out of order, zeros between words and after them, and two programs
 abbrev four_tiles : Doc
 four_tiles = record {
   cols = 2;

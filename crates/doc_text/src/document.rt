@@ -12,7 +12,7 @@ pub type Programs = Items<Program>;
 /// What is posted: for each window, the tiles that post in it.
 pub type Posts = Items<Tiles>;
 
-/// A description that keeps to every limit.
+/// A document that keeps to every limit.
 #[derive(Debug, Drop)]
 pub struct Document {
     pub mesh: Mesh,

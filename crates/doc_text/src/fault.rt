@@ -6,10 +6,10 @@ use core_isa::{AsmFault, AsmKind};
 use mesh_gen::Text;
 use std::fmt;
 
-/// A table of a description, as a fault names it.
+/// A table of a document, as a fault names it.
 #[derive(Clone, Copy, Debug, PartialEq, Eq)]
 pub enum Place {
-    /// The whole description.
+    /// The whole document.
     Top,
     /// The table of the mesh.
     Mesh,
@@ -17,7 +17,7 @@ pub enum Place {
     Core { at: u64 },
 }
 
-/// What is wrong with a description. `at` is the position of a core's table, from 0, and 0 for keys of other tables.
+/// What is wrong with a document. `at` is the position of a core's table, from 0, and 0 for keys of other tables.
 #[derive(Debug, Drop)]
 pub enum DocFault {
     /// The bytes are not UTF-8, or not a TOML document.
@@ -45,7 +45,7 @@ fn number_of(kind: AsmKind) -> u8
     kind as u8
 }
 
-/// What the program says of the fault, behind `document: `.
+/// What the program says of the fault, after `document: `.
 impl fmt::Display for DocFault {
     ghost output = { λ fault. Some (fault_text fault) };
 

@@ -6,10 +6,10 @@ use crate::{Limit, Omitted, Shape};
 use mesh_gen::MOST_SIDE;
 use std::fmt;
 
-/// A table of a description that has keys of its own.
+/// A table of a document that has keys of its own.
 #[derive(Clone, Copy, Debug, PartialEq, Eq)]
 pub enum Level {
-    /// The whole description.
+    /// The whole document.
     Top,
     /// The table of the mesh.
     Mesh,
@@ -17,7 +17,7 @@ pub enum Level {
     Core,
 }
 
-/// A key of a description.
+/// A key of a document.
 #[derive(Clone, Copy, Debug, PartialEq, Eq)]
 pub enum Key {
     Mesh,
@@ -150,7 +150,7 @@ impl Key {
     }
 }
 
-/// The key behind the key of its table, as `mesh.window`.
+/// The key after the key of its table, as `mesh.window`.
 impl fmt::Display for Key {
     ghost output = { λ key. Some (key_text key) };
 

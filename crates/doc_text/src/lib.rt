@@ -1,4 +1,4 @@
-//! The description of a chip, its programs and its posts as checked data; the table of a description's keys; the text in
+//! The document of a chip, its programs and its posts as checked data; the table of a document's keys; the text in
 //! which it is shown.
 #![tactic(auto)]
 

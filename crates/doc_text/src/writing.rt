@@ -9,8 +9,8 @@ use crate::memory::shown_words;
 use crate::{Document, Key};
 use outside_io::{Sink, WriteFault, write_piece};
 
-/// Writes the canonical text of a description, line by line, and long lists number by number. It takes no memory. Where
-/// the sink fails it holds a front part of the text.
+/// Writes the canonical text of a document, line by line, and long lists number by number. It takes no memory. Where
+/// the sink fails it holds a prefix of the text.
 pub fn write_document<K: Sink>(document: &Document, sink: &mut K) -> Result<(), WriteFault>
     ensures ok { OnOk result (Appends (K.held sink.old) (K.held sink.new) (canonical (doc_of document.now))) }
     ensures err { OnErr result (AppendsPart (K.held sink.old) (K.held sink.new) (canonical (doc_of document.now))) }

@@ -6,7 +6,7 @@ use Rattle.core_isa.specs.Core.{CoreState}
 use Rattle.report_text.specs.declared.access.Access.{Access}
 use Rattle.flat_ref.specs.declared.flat.Flat.{Flat}
 use Rattle.flat_ref.specs.Taking.{◌>>=◌, taken_all, StopsAt}
-use Rattle.flat_ref.specs.Execution.{cores_at, executed_from, IsFirstBad}
+use Rattle.flat_ref.specs.Execution.{cores_at, executed_from, IsFirstBadAccess}
 use Rattle.flat_ref.proofs.Runs.{taken_all_stuck}
 
 abbrev with_memory : List ℕ → Option (List CoreState) → Option Flat
@@ -18,7 +18,7 @@ unfolding executed_from
 executed_from-taken programs flat after accesses steps found taken reached =
     ap (λ (o : Option Flat). o >>= λ last. with_memory last.memory (cores_at steps programs last.cores)) taken ∙ ap (with_memory after.memory) reached
 
-pub bad_access : (programs : List (List Instr)) (flat : Flat) (accesses : List Access) (steps : List ℕ) (at : ℕ) → StopsAt programs flat accesses at → IsFirstBad programs flat accesses steps at
+pub bad_access : (programs : List (List Instr)) (flat : Flat) (accesses : List Access) (steps : List ℕ) (at : ℕ) → StopsAt programs flat accesses at → IsFirstBadAccess programs flat accesses steps at
 unfolding executed_from
 bad_access programs flat accesses steps at stop = record {
   within = omega (arith, stop.within);
@@ -27,7 +27,7 @@ bad_access programs flat accesses steps at stop = record {
   refused = ap (λ (o : Option Flat). o >>= λ last. with_memory last.memory (cores_at steps programs last.cores)) (taken_all_stuck programs flat accesses _ stop.here);
 }
 
-pub bad_steps : (programs : List (List Instr)) (flat after : Flat) (accesses : List Access) (steps : List ℕ) → taken_all programs flat accesses ≡ Some after → cores_at steps programs after.cores ≡ None → IsFirstBad programs flat accesses steps (length accesses)
+pub bad_steps : (programs : List (List Instr)) (flat after : Flat) (accesses : List Access) (steps : List ℕ) → taken_all programs flat accesses ≡ Some after → cores_at steps programs after.cores ≡ None → IsFirstBadAccess programs flat accesses steps (length accesses)
 bad_steps programs flat after accesses steps taken stuck =
     let all : take (length accesses) accesses ≡ accesses = take_all (length accesses) accesses (omega arith) in
     record {

@@ -14,7 +14,7 @@ use Rattle.report_text.specs.declared.access.AccessKind.{AccessKind}
 use Rattle.report_text.specs.declared.access.AccessKind.TheVariants as kind
 use Rattle.report_text.specs.Accesses.{reads, writes, read_by}
 use Rattle.flat_ref.specs.declared.flat.Flat.{Flat}
-use Rattle.flat_ref.specs.Taking.{◌>>=◌, core_at, made, made_by, reads_right, served, taken, taken_all}
+use Rattle.flat_ref.specs.Taking.{◌>>=◌, core_at, made, made_by, reads_right, memory_after, taken, taken_all}
 use Rattle.flat_ref.specs.Order.{word_by}
 use Rattle.flat_ref.specs.Consistency.{accesses_of, made_all}
 use Rattle.flat_ref.proofs.Runs.{taken_all_none, taken_all_cons}
@@ -50,7 +50,7 @@ own_other t a rest other = let test : eqb a.tile t ≡ false = grind (arith, nat
 -- memory, where an access that reads has the word that it has to have
 pub record Serves (memory : List ℕ) (a : Access) : Type 0 where
   pub words : List ℕ
-  pub served_is : served memory a ≡ Some words
+  pub served_is : memory_after memory a ≡ Some words
   pub as_long : length words ≡ length memory
   pub word : (address : ℕ) → a.address < length memory → get_or words address 0 ≡ word_by address a (get_or memory address 0)
 
@@ -77,7 +77,7 @@ serves_by memory a right =
       word = λ address within. word_as memory a (writes a.kind) address within;
     }
 
-length_served : (memory words : List ℕ) (a : Access) → served memory a ≡ Some words → length words ≡ length memory
+length_served : (memory words : List ℕ) (a : Access) → memory_after memory a ≡ Some words → length words ≡ length memory
 length_served memory words a e =
     ap length (sym (cond_some (reads_right memory a) (cond (writes a.kind) (set memory a.address a.value) memory) words e).1) ∙ length_as memory a (writes a.kind)
 

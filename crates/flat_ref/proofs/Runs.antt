@@ -39,7 +39,7 @@ unfolding taken_all
 taken_all-append programs flat first second =
     fold-append (then_taken programs) (Some flat) first second ∙ of_found programs (fold (then_taken programs) (Some flat) first) second
 
--- where a front part cannot be taken, all cannot
+-- where a prefix cannot be taken, all cannot
 pub taken_all_stuck : (programs : List (List Instr)) (flat : Flat) (accesses : List Access) (i : ℕ) → taken_all programs flat (take i accesses) ≡ None → taken_all programs flat accesses ≡ None
 taken_all_stuck programs flat accesses i stuck =
     ap (λ (all : List Access). taken_all programs flat all) (sym (take-append-drop i accesses)) ∙ (taken_all-append programs flat (take i accesses) (drop i accesses) ∙ ap (λ (found : Option Flat). found >>= λ before. taken_all programs before (drop i accesses)) stuck)

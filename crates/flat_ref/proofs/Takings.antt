@@ -12,7 +12,7 @@ use Rattle.report_text.specs.declared.access.AccessKind.{AccessKind}
 use Rattle.report_text.specs.declared.access.AccessKind.TheVariants as kind
 use Rattle.report_text.specs.Accesses.{reads, writes}
 use Rattle.flat_ref.specs.declared.flat.Flat.{Flat}
-use Rattle.flat_ref.specs.Taking.{flat_of, core_at, made, made_by, served, taken}
+use Rattle.flat_ref.specs.Taking.{flat_of, core_at, made, made_by, memory_after, taken}
 use Rattle.flat_ref.specs.Order.{IsLoadOf, IsStoreOf, IsSwapOf, IsAddOf, IsAccessOf, Takes}
 
 -- register instructions are counted
@@ -138,7 +138,7 @@ abbrev with_words : Flat → Access → CoreState → List ℕ → Option Flat
 with_words old a after words = Some (record { cores = set old.cores a.tile after; memory = words })
 
 abbrev with_core : Flat → Access → CoreState → Option Flat
-with_core old a after = option_and_then (with_words old a after) (served old.memory a)
+with_core old a after = option_and_then (with_words old a after) (memory_after old.memory a)
 
 abbrev by_core : Flat → Access → List Instr → CoreState → Option Flat
 by_core old a program core =
@@ -155,7 +155,7 @@ pub record Sides (programs : List (List Instr)) (old new : Flat) (a : Access) : 
   pub its_program : slice_get programs a.tile ≡ Some program
   pub its_core : slice_get old.cores a.tile ≡ Some core
   pub core_side : made_by (length old.memory) program core a ≡ Some after
-  pub memory_side : served old.memory a ≡ Some new.memory
+  pub memory_side : memory_after old.memory a ≡ Some new.memory
   pub cores : new.cores ≡ set old.cores a.tile after
 
 pub sides : (programs : List (List Instr)) (old new : Flat) (a : Access) → taken programs old a ≡ Some new → Sides programs old new a
@@ -164,7 +164,7 @@ sides programs old new a e =
     option_and_then_some (by_program old a) (slice_get programs a.tile) new e (λ program its_program e1.
     option_and_then_some (by_core old a program) (slice_get old.cores a.tile) new e1 (λ core its_core e2.
     option_and_then_some (with_core old a) (made_by (length old.memory) program core a) new e2 (λ after core_side e3.
-    option_and_then_some (with_words old a after) (served old.memory a) new e3 (λ words memory_side e4.
+    option_and_then_some (with_words old a after) (memory_after old.memory a) new e3 (λ words memory_side e4.
     let is_new = same_Some (record { cores = set old.cores a.tile after; memory = words }) new e4 in
     record {
       program = program;
@@ -178,7 +178,7 @@ sides programs old new a e =
     }))))
 
 -- both sides together are taken
-pub taken_by_sides : (programs : List (List Instr)) (old : Flat) (a : Access) (program : List Instr) (core after : CoreState) (words : List ℕ) → slice_get programs a.tile ≡ Some program → slice_get old.cores a.tile ≡ Some core → made_by (length old.memory) program core a ≡ Some after → served old.memory a ≡ Some words → taken programs old a ≡ Some (flat_of (set old.cores a.tile after) words)
+pub taken_by_sides : (programs : List (List Instr)) (old : Flat) (a : Access) (program : List Instr) (core after : CoreState) (words : List ℕ) → slice_get programs a.tile ≡ Some program → slice_get old.cores a.tile ≡ Some core → made_by (length old.memory) program core a ≡ Some after → memory_after old.memory a ≡ Some words → taken programs old a ≡ Some (flat_of (set old.cores a.tile after) words)
 unfolding taken
 taken_by_sides programs old a program core after words its_program its_core core_side memory_side =
     rw (its_program, its_core, core_side, memory_side) refl
@@ -207,7 +207,7 @@ takes counted received programs old new a e =
 -- the two sides of an access by the relation
 record Makes (program : List Instr) (ready after : CoreState) (old new : List ℕ) (a : Access) : Type 0 where
   core_side : made_next (length old) program a ready ≡ Some after
-  memory_side : served old a ≡ Some new
+  memory_side : memory_after old a ≡ Some new
 
 makes_load : Received → (program : List Instr) (ready after : CoreState) (old new : List ℕ) (a : Access) → IsLoadOf program ready after old new a → Makes program ready after old new a
 makes_load received program ready after old new a l =

@@ -59,7 +59,7 @@ flat_memory programs memory accesses =
 
 -- the access at this position is the first that cannot be taken; or all can, it is their number, and some core does not
 -- get to its number of steps
-pub record IsFirstBad (programs : List (List Instr)) (flat : Flat) (accesses : List Access) (steps : List ℕ) (at : ℕ) : Type 0 where
+pub record IsFirstBadAccess (programs : List (List Instr)) (flat : Flat) (accesses : List Access) (steps : List ℕ) (at : ℕ) : Type 0 where
   pub within : at ≤ length accesses
   pub before : IsSome (taken_all programs flat (take at accesses))
   pub here : at < length accesses → taken_all programs flat (take (at + 1) accesses) ≡ None
@@ -70,10 +70,10 @@ abbrev pub IfFirstBad : (ℕ → Type 0) → CheckEnd → Type 0
 IfFirstBad P (FirstBad at) = P at
 IfFirstBad P NoMemory = Unit {0}
 
--- a description's new cores and memory
+-- a document's new cores and memory
 abbrev pub start_of : Document → Flat
 start_of document = start document.programs document.memory
 
--- an execution of a description's programs
+-- an execution of a document's programs
 abbrev pub executed_by : Document → List Access → List ℕ → Option Flat
 executed_by document accesses steps = executed document.programs document.memory accesses steps

@@ -12,7 +12,7 @@ use Rattle.report_text.specs.declared.access.Access.{Access}
 use Rattle.report_text.specs.declared.access.AccessKind.TheVariants as kind
 use Rattle.flat_ref.specs.declared.flat.Flat.{Flat}
 use Rattle.flat_ref.specs.Taking.{core_at, made_by, taken, taken_all}
-use Rattle.flat_ref.specs.Execution.{start, cores_at, executed_from, IsExecution, IsFirstBad, AreHalted, IsWholeExecution}
+use Rattle.flat_ref.specs.Execution.{start, cores_at, executed_from, IsExecution, IsFirstBadAccess, AreHalted, IsWholeExecution}
 
 -- tile, number, address, value
 abbrev pub ld : ℕ → ℕ → ℕ → ℕ → Access
@@ -38,7 +38,7 @@ Runs programs accesses steps = IsExecution programs zeros accesses steps
 
 -- the first bad one is at this position
 abbrev pub Refuses : List (List Instr) → List Access → List ℕ → ℕ → Type 0
-Refuses programs accesses steps at = IsFirstBad programs (start programs zeros) accesses steps at
+Refuses programs accesses steps at = IsFirstBadAccess programs (start programs zeros) accesses steps at
 
 -- a store, and a load of it
 abbrev alone : List (List Instr)
@@ -123,7 +123,7 @@ exchanging_whole = record { after = exchanging_after; executed = refl; halted = 
 
 -- the first bad one among accesses of that program is at this position
 abbrev IsRefused : List Access → ℕ → Type 0
-IsRefused accesses at = IsFirstBad exchanging (start exchanging ten) accesses (3 ∷ []) at
+IsRefused accesses at = IsFirstBadAccess exchanging (start exchanging ten) accesses (3 ∷ []) at
 
 -- an old word that is not the word: what it becomes, and what the register had
 add_of_the_new_word : IsRefused (fa 0 1 0 13 13 ∷ sw 0 2 0 10 13 ∷ []) 0

@@ -54,8 +54,8 @@ abbrev pub reads_right : List ℕ → Access → Bool
 reads_right memory a = not (reads a.kind) || (slice_index memory a.address == read_by a)
 
 -- memory after the access, which has to read the word that is there; the value of one that writes becomes the word
-abbrev pub served : List ℕ → Access → Option (List ℕ)
-served memory a =
+abbrev pub memory_after : List ℕ → Access → Option (List ℕ)
+memory_after memory a =
     if reads_right memory a
     then Some (if writes a.kind then slice_set memory a.address a.value else memory)
     else None
@@ -66,7 +66,7 @@ taken programs flat a = do
   program ← slice_get programs a.tile
   core ← slice_get flat.cores a.tile
   after ← made_by (length flat.memory) program core a
-  words ← served flat.memory a
+  words ← memory_after flat.memory a
   Some (flat_of (slice_set flat.cores a.tile after) words)
 
 -- what the accesses leave, taken from first to last; none where one of them cannot be taken

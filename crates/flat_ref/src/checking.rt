@@ -2,7 +2,7 @@ ghost use Rattle.std.specs.Prelude.{◌≡◌, ◌<◌, ◌≤◌, ◌^◌, None
 ghost use Rattle.std.specs.List.{range_with_len};
 ghost use Rattle.core_isa.specs.Core.{new_core};
 ghost use Rattle.flat_ref.specs.Taking.{flat_of, taken_all, StopsAt};
-ghost use Rattle.flat_ref.specs.Execution.{cores_at, executed_from, executed_by, start_of, IsFirstBad, IfFirstBad};
+ghost use Rattle.flat_ref.specs.Execution.{cores_at, executed_from, executed_by, start_of, IsFirstBadAccess, IfFirstBad};
 
 use crate::taking::{reach, take};
 use crate::{CheckEnd, Flat};
@@ -25,7 +25,7 @@ pub fn check(
     requires numbers { All (λ a. a.number < 2 ^ 62) accesses.now }
     ensures ok { IfOk result (λ flat. executed_by document.now accesses.now steps.now ≡ Some flat) }
     ensures bad { IfErr result (IfFirstBad
-        (IsFirstBad document.now.programs (start_of document.now) accesses.now steps.now)) }
+        (IsFirstBadAccess document.now.programs (start_of document.now) accesses.now steps.now)) }
 {
     let programs = document.programs.as_slice();
     let mut cores = new_cores(alloc, document.mesh.tiles())?;
@@ -62,7 +62,7 @@ fn first_bad(
     requires limit { length memory.old ≤ 1024 }
     ensures { MatchOption result
         (executed_from programs.now (flat_of cores.old memory.old) accesses.now steps.now ≡ Some (flat_of cores.new memory.new))
-        (IsFirstBad programs.now (flat_of cores.old memory.old) accesses.now steps.now) }
+        (IsFirstBadAccess programs.now (flat_of cores.old memory.old) accesses.now steps.now) }
 {
     if let Some(at) = take_all(programs, cores, memory, accesses) {
         return Some(at);

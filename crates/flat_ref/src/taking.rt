@@ -1,6 +1,6 @@
 ghost use Rattle.std.specs.Prelude.{◌≡◌, ◌<◌, ◌≤◌, ◌^◌, ◌⊎◌, None, Some, IsTrue, MatchBool, length};
 ghost use Rattle.core_isa.specs.Core.{next_of};
-ghost use Rattle.flat_ref.specs.Taking.{flat_of, core_at, made, made_by, served, taken};
+ghost use Rattle.flat_ref.specs.Taking.{flat_of, core_at, made, made_by, memory_after, taken};
 
 use core_isa::{Core, Next, Program};
 use report_text::{Access, AccessKind};
@@ -38,9 +38,9 @@ fn take_by(program: &Program, core: &mut Core, memory: &mut [u32], access: &Acce
     requires limit { length memory.old ≤ 1024 }
     ensures { MatchBool result
         ((made_by (length memory.old) program.now core.old access.now ≡ Some core.new)
-        × (served memory.old access.now ≡ Some memory.new))
+        × (memory_after memory.old access.now ≡ Some memory.new))
         ((made_by (length memory.old) program.now core.old access.now ≡ None)
-        ⊎ (served memory.old access.now ≡ None)) }
+        ⊎ (memory_after memory.old access.now ≡ None)) }
 {
     reach(program, core, access.number) && perform(program, core, memory, access)
 }
@@ -67,9 +67,9 @@ fn perform(program: &Program, core: &mut Core, memory: &mut [u32], access: &Acce
     ensures { MatchBool result
         ((made (length memory.old) program.now core.old access.now (next_of program.now core.old) access.now.kind
         ≡ Some core.new)
-        × (served memory.old access.now ≡ Some memory.new))
+        × (memory_after memory.old access.now ≡ Some memory.new))
         ((made (length memory.old) program.now core.old access.now (next_of program.now core.old) access.now.kind ≡ None)
-        ⊎ (served memory.old access.now ≡ None)) }
+        ⊎ (memory_after memory.old access.now ≡ None)) }
 {
     let place = access.address as usize;
     match (core.next(program), access.kind) {

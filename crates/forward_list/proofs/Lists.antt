@@ -14,7 +14,7 @@ ends_in_getm-last (w ∷ []) (suc n) last e is = absurd (omega arith)
 ends_in_getm-last (w ∷ v ∷ list) zero last e is = absurd (omega arith)
 ends_in_getm-last (w ∷ v ∷ list) (suc n) last e is = ends_in_getm-last (v ∷ list) n last (omega arith) is
 
--- behind the words for the first k of a list, those for the next
+-- after the words for the first k of a list, those for the next
 pub data_to_all-more : (out : List Msg) (line : ℕ) (words : List ℕ) (list : List Waiting) (k : ℕ) (next : Waiting) → k < length list → next ≡ get_or list k next
     → (out ++ data_to_all line words (take k list)) ++ data_to next.tile line words ∷ [] ≡ out ++ data_to_all line words (take (k + 1) list)
 data_to_all-more out line words list k next below is =

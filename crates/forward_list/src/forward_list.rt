@@ -36,7 +36,7 @@ impl ForwardList {
         }
     }
 
-    /// A tile waits behind the others. Behind one that is to write nobody waits here: the words go on to that tile.
+    /// A tile waits after the others. After one that is to write nobody waits here: the words go on to that tile.
     pub fn add(&mut self, tile: u8, kind: Kind)
         requires room { length self.old < LIST_PLACES }
         requires open { ¬ IsTrue (ends_in_getm self.old) }

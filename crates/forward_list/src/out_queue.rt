@@ -56,7 +56,7 @@ impl OutQueue {
         self.places.remove(0);
     }
 
-    /// Whether words to give back to memory are still to be sent.
+    /// Whether words to write back to memory are still to be sent.
     pub fn holds_back(&self) -> bool
         ensures { result ≡ holds_back self.now }
     {

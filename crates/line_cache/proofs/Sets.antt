@@ -9,7 +9,7 @@ use Rattle.chip_model.specs.declared.victim.Victim.TheVariants.{Empty, DropS, Pu
 use Rattle.chip_model.specs.Chip.{Chip, set_number}
 use Rattle.chip_model.specs.Cache.{Held, Ways, Cache, found, has_empty, placed, emptied, freed, lowest, victim_of, lookup, has_room, fits, installed, without_line, without_shared, lowest_for, victim}
 use Rattle.line_cache.specs.Ways as ways_of_set
-use Rattle.line_cache.specs.Sets.{HasSets, Fits, copy_of, AreInPlace, MakesRoom}
+use Rattle.line_cache.specs.Sets.{HasSets, Fits, copy_of, AreInPlace, IsVictim}
 use Rattle.line_cache.proofs.Found.{found_line, found-replicate}
 
 -- the set of a line has this number, and these are its ways
@@ -84,9 +84,9 @@ Fits-at cache line i ways at fitting =
 pub Fits-held : (cache : Cache) (line i : ℕ) (ways : Ways) → AtSet cache line i ways → (held : Held) → found line ways ≡ Some held → Fits cache line
 Fits-held cache line i ways at held there = Fits-at cache line i ways at (grind (arith, there))
 
-pub Fits-room : (cache : Cache) (line i : ℕ) (ways : Ways) (leaves : Victim) → AtSet cache line i ways → ways_of_set.MakesRoom ways leaves → leaves ≡ Empty → Fits cache line
+pub Fits-room : (cache : Cache) (line i : ℕ) (ways : Ways) (leaves : Victim) → AtSet cache line i ways → ways_of_set.IsVictimOfWays ways leaves → leaves ≡ Empty → Fits cache line
 Fits-room cache line i ways leaves at room empty =
-    let here : has_empty ways ≡ true = subst (λ (v : Victim). ways_of_set.MakesRoom ways v) empty room in
+    let here : has_empty ways ≡ true = subst (λ (v : Victim). ways_of_set.IsVictimOfWays ways v) empty room in
     Fits-at cache line i ways at (grind (arith, here))
 
 pub installed-at : (chip : Chip) (cache : Cache) (i : ℕ) (ways : Ways) (new : Held) → HasSets chip cache → AtSet cache new.line i ways → set cache i (placed new ways) ≡ installed chip new cache
@@ -244,10 +244,10 @@ room_without chip cache line leaving i ways sets at own room =
     subst (λ (after : Cache). has_room chip after line ≡ true) (without_line-at chip cache leaving i ways sets own)
     (has_room-changed chip cache line i ways (emptied leaving ways) sets at ∙ room)
 
-pub MakesRoom-at : (chip : Chip) (cache : Cache) (line i : ℕ) (ways : Ways) (leaves : Victim) → HasSets chip cache → AtSet cache line i ways → AreInPlace cache
-    → ways_of_set.MakesRoom ways leaves → MakesRoom chip cache line leaves
-MakesRoom-at chip cache line i ways Empty sets at placed room = has_room-at chip cache line i ways sets at ∙ room
-MakesRoom-at chip cache line i ways (DropS leaving) sets at placed room =
+pub IsVictim-at : (chip : Chip) (cache : Cache) (line i : ℕ) (ways : Ways) (leaves : Victim) → HasSets chip cache → AtSet cache line i ways → AreInPlace cache
+    → ways_of_set.IsVictimOfWays ways leaves → IsVictim chip cache line leaves
+IsVictim-at chip cache line i ways Empty sets at placed room = has_room-at chip cache line i ways sets at ∙ room
+IsVictim-at chip cache line i ways (DropS leaving) sets at placed room =
     let own = at_same cache line i leaving ways room.held at placed room.there in
     record {
       full = has_room-at chip cache line i ways sets at ∙ room.full;
@@ -259,7 +259,7 @@ MakesRoom-at chip cache line i ways (DropS leaving) sets at placed room =
       there = lookup-at chip cache leaving i ways sets own ∙ room.there;
       shared = room.shared;
     }
-MakesRoom-at chip cache line i ways (Put leaving) sets at placed room =
+IsVictim-at chip cache line i ways (Put leaving) sets at placed room =
     let own = at_same cache line i leaving ways room.held at placed room.there in
     record {
       full = has_room-at chip cache line i ways sets at ∙ room.full;

@@ -5,7 +5,7 @@ use Rattle.std.proofs.lemmas.Bool.Decides.{nat_tests}
 use Rattle.chip_model.specs.declared.victim.Victim.{Victim}
 use Rattle.chip_model.specs.Cache.{Held, Ways, is_shared, found, has_empty, emptied, freed, lowest, lowest_shared, put_of}
 use Rattle.chip_model.specs.NodeShape.{IsApart}
-use Rattle.line_cache.specs.Ways.{DropsShared, MakesRoom}
+use Rattle.line_cache.specs.Ways.{DropsSharedWay, IsVictimOfWays}
 use Rattle.line_cache.proofs.First.{emptied-absent}
 use Rattle.line_cache.proofs.Found.{empty_where_found}
 
@@ -61,7 +61,7 @@ freed-unshared [] none = refl
 freed-unshared (None ∷ ways) none = ap (option_map (λ (rest : Ways). None ∷ rest)) (freed-unshared ways none)
 freed-unshared (Some held ∷ ways) none = grind (arith, freed-unshared ways)
 
-puts_lowest : (ways : Ways) → has_empty ways ≡ false → lowest_shared ways ≡ None → 0 < length ways → MakesRoom ways (put_of (lowest ways))
+puts_lowest : (ways : Ways) → has_empty ways ≡ false → lowest_shared ways ≡ None → 0 < length ways → IsVictimOfWays ways (put_of (lowest ways))
 puts_lowest [] full none some = absurd (omega arith)
 puts_lowest (None ∷ ways) full none some = cc
 puts_lowest (Some held ∷ ways) full none some = record {
@@ -75,7 +75,7 @@ puts_lowest (Some held ∷ ways) full none some = record {
   owned = grind (arith, none);
 }
 
-drops_shared : (ways : Ways) (line : ℕ) → has_empty ways ≡ false → Shared ways line → DropsShared ways line
+drops_shared : (ways : Ways) (line : ℕ) → has_empty ways ≡ false → Shared ways line → DropsSharedWay ways line
 drops_shared ways line full is = record {
   full = full;
   dropped = is.dropped;
@@ -86,17 +86,17 @@ drops_shared ways line full is = record {
 }
 
 -- ---- the same of ways that were read as an array
-pub DropsShared-read : (now items read : Ways) (line : ℕ) → items ≡ now → read ≡ items → (0 < length items) × IsApart items → has_empty read ≡ false → lowest_shared read ≡ Some line → DropsShared now line
-DropsShared-read now items read line is same ok full shared =
+pub DropsSharedWay-read : (now items read : Ways) (line : ℕ) → items ≡ now → read ≡ items → (0 < length items) × IsApart items → has_empty read ≡ false → lowest_shared read ≡ Some line → DropsSharedWay now line
+DropsSharedWay-read now items read line is same ok full shared =
     let full_here : has_empty items ≡ false = ap has_empty (sym same) ∙ full in
     let shared_here : lowest_shared items ≡ Some line = ap lowest_shared (sym same) ∙ shared in
-    subst (λ (ways : Ways). DropsShared ways line) is (drops_shared items line full_here (Shared-lowest_shared items line ok.1 shared_here))
+    subst (λ (ways : Ways). DropsSharedWay ways line) is (drops_shared items line full_here (Shared-lowest_shared items line ok.1 shared_here))
 
-pub MakesRoom-read : (now items read : Ways) (victim : Victim) → items ≡ now → read ≡ items → (0 < length items) × IsApart items → has_empty read ≡ false → lowest_shared read ≡ None
-    → victim ≡ put_of (lowest read) → MakesRoom now victim
-MakesRoom-read now items read victim is same ok full none put =
+pub IsVictimOfWays-read : (now items read : Ways) (victim : Victim) → items ≡ now → read ≡ items → (0 < length items) × IsApart items → has_empty read ≡ false → lowest_shared read ≡ None
+    → victim ≡ put_of (lowest read) → IsVictimOfWays now victim
+IsVictimOfWays-read now items read victim is same ok full none put =
     let full_here : has_empty items ≡ false = ap has_empty (sym same) ∙ full in
     let none_here : lowest_shared items ≡ None = ap lowest_shared (sym same) ∙ none in
     let put_here : put_of (lowest items) ≡ victim = ap (λ (ways : Ways). put_of (lowest ways)) (sym same) ∙ sym put in
-    subst (λ (ways : Ways). MakesRoom ways victim) is
-    (subst (λ (v : Victim). MakesRoom items v) put_here (puts_lowest items full_here none_here ok.0))
+    subst (λ (ways : Ways). IsVictimOfWays ways victim) is
+    (subst (λ (v : Victim). IsVictimOfWays items v) put_here (puts_lowest items full_here none_here ok.0))

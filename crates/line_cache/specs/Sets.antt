@@ -33,7 +33,7 @@ pub record DropsShared (chip : Chip) (cache : Cache) (line leaving : ℕ) : Type
 
 -- the set of a line is full, and none of its ways is shared; another line stands in the lowest one, without which the
 -- line has room
-pub record PutsBack (chip : Chip) (cache : Cache) (line leaving : ℕ) : Type 0 where
+pub record EvictsLowest (chip : Chip) (cache : Cache) (line leaving : ℕ) : Type 0 where
   pub full : has_room chip cache line ≡ false
   pub unshared : without_shared chip line cache ≡ None
   pub room : has_room chip (without_line chip leaving cache) line ≡ true
@@ -44,7 +44,7 @@ pub record PutsBack (chip : Chip) (cache : Cache) (line leaving : ℕ) : Type 0 
   pub owned : is_shared held.state ≡ false
 
 -- what a victim says of the set of a line
-abbrev pub MakesRoom : Chip → Cache → ℕ → Victim → Type 0
-MakesRoom chip cache line Empty = has_room chip cache line ≡ true
-MakesRoom chip cache line (DropS leaving) = DropsShared chip cache line leaving
-MakesRoom chip cache line (Put leaving) = PutsBack chip cache line leaving
+abbrev pub IsVictim : Chip → Cache → ℕ → Victim → Type 0
+IsVictim chip cache line Empty = has_room chip cache line ≡ true
+IsVictim chip cache line (DropS leaving) = DropsShared chip cache line leaving
+IsVictim chip cache line (Put leaving) = EvictsLowest chip cache line leaving

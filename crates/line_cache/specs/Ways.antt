@@ -20,7 +20,7 @@ line_held None = None
 line_held (Some held) = Some held.line
 
 -- no way is empty; a shared line stands in the lowest shared way, and without it a way is empty
-pub record DropsShared (ways : Ways) (line : ℕ) : Type 0 where
+pub record DropsSharedWay (ways : Ways) (line : ℕ) : Type 0 where
   pub full : has_empty ways ≡ false
   pub dropped : freed ways ≡ Some (emptied line ways)
   pub room : has_empty (emptied line ways) ≡ true
@@ -29,7 +29,7 @@ pub record DropsShared (ways : Ways) (line : ℕ) : Type 0 where
   pub shared : is_shared held.state ≡ true
 
 -- no way is empty, and none is shared; a line stands in the lowest one, and without it a way is empty
-pub record PutsBack (ways : Ways) (line : ℕ) : Type 0 where
+pub record EvictsLowestWay (ways : Ways) (line : ℕ) : Type 0 where
   pub full : has_empty ways ≡ false
   pub unshared : freed ways ≡ None
   pub room : has_empty (emptied line ways) ≡ true
@@ -40,7 +40,7 @@ pub record PutsBack (ways : Ways) (line : ℕ) : Type 0 where
   pub owned : is_shared held.state ≡ false
 
 -- what a victim says of the ways
-abbrev pub MakesRoom : Ways → Victim → Type 0
-MakesRoom ways Empty = has_empty ways ≡ true
-MakesRoom ways (DropS line) = DropsShared ways line
-MakesRoom ways (Put line) = PutsBack ways line
+abbrev pub IsVictimOfWays : Ways → Victim → Type 0
+IsVictimOfWays ways Empty = has_empty ways ≡ true
+IsVictimOfWays ways (DropS line) = DropsSharedWay ways line
+IsVictimOfWays ways (Put line) = EvictsLowestWay ways line

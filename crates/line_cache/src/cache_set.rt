@@ -1,7 +1,7 @@
 ghost use Rattle.std.specs.Prelude.{◌≡◌, ◌||◌, replicate, IsTrue, is_some};
 ghost use Rattle.mesh_gen.specs.Limits.{IsFrom};
 ghost use Rattle.chip_model.specs.Cache.{found, has_empty, placed, emptied, victim_of};
-ghost use Rattle.line_cache.specs.Ways.{MakesRoom};
+ghost use Rattle.line_cache.specs.Ways.{IsVictimOfWays};
 
 use crate::held_line::HeldLine;
 use crate::ways;
@@ -48,7 +48,7 @@ impl CacheSet {
     // What has to leave before one more line comes in.
     pub(crate) fn victim(&self) -> Victim
         ensures rule { result ≡ victim_of self.now }
-        ensures room { MakesRoom self.now result }
+        ensures room { IsVictimOfWays self.now result }
     {
         let ways = self.ways.as_slice();
         if ways::has_empty(ways) {

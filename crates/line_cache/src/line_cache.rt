@@ -1,7 +1,7 @@
 ghost use Rattle.std.specs.Prelude.{◌≡◌, ◌≢◌, ◌<◌, ◌%◌, ℕ, IfOk, IsSome, IsTrue, length, option_map};
 ghost use Rattle.chip_model.specs.Chip.{Chip, chip_of_mesh};
 ghost use Rattle.chip_model.specs.Cache.{empty_cache, lookup, fits, victim, installed, without_line};
-ghost use Rattle.line_cache.specs.Sets.{HasSets, Fits, MakesRoom, copy_of};
+ghost use Rattle.line_cache.specs.Sets.{HasSets, Fits, IsVictim, copy_of};
 
 use crate::cache_set::CacheSet;
 use crate::held_line::HeldLine;
@@ -60,7 +60,7 @@ impl LineCache {
     /// What has to leave the cache before the line, which is not in it, can come in.
     pub fn victim(&self, line: u16) -> Victim
         ensures rule { (chip : Chip) → HasSets chip self.now → result ≡ victim chip self.now line }
-        ensures room { (chip : Chip) → HasSets chip self.now → MakesRoom chip self.now line result }
+        ensures room { (chip : Chip) → HasSets chip self.now → IsVictim chip self.now line result }
         ensures fits { result ≡ Victim.Empty → Fits self.now line }
     {
         self.sets[self.set_number(line)].victim()

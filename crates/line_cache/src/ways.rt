@@ -128,7 +128,7 @@ pub(crate) fn lowest_shared(ways: &[Option<HeldLine>]) -> Option<u16>
     line_in(ways, way)
 }
 
-// The line of the lowest way, which has to be given back.
+// The line of the lowest way, which has to be written back.
 pub(crate) fn put_lowest(ways: &[Option<HeldLine>]) -> Victim
     requires { 0 < length ways.now }
     ensures { result ≡ put_of (lowest ways.now) }

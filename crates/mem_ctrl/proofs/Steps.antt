@@ -12,7 +12,7 @@ use Rattle.chip_model.specs.declared.owner.Owner.TheVariants.{Memory, Tile}
 use Rattle.chip_model.specs.Snoop.{data_to, data_to_all}
 use Rattle.chip_model.specs.declared.waiting.Waiting.{Waiting}
 use Rattle.chip_model.specs.Ownership.{owner_by, owner_after}
-use Rattle.chip_model.specs.Records.{LineRecord, Records, Answers, from_memory, behind_back, owned_by_tile, answered_by, answered_at, answered, returned, returned_at, back_arrived}
+use Rattle.chip_model.specs.Records.{LineRecord, Records, Answers, from_memory, awaiting_write_back, owned_by_tile, answered_by, answered_at, answered, returned, returned_at, back_arrived}
 use Rattle.mem_ctrl.specs.Owners.{record_of, owner_in, next_owner}
 
 -- ---- the record that a call reached, in the words of what the call knows
@@ -70,11 +70,11 @@ from_memory-owner q r GetS is = is
 from_memory-owner q r GetM is = refl
 from_memory-owner q r PutM is = is
 
-behind_back-owner : (q : Request) (r : LineRecord) (k : Kind) → r.owner ≡ Memory
-    → (behind_back q r k).left.owner ≡ owner_by q.source k Memory
-behind_back-owner q r GetS is = is
-behind_back-owner q r GetM is = refl
-behind_back-owner q r PutM is = is
+awaiting_write_back-owner : (q : Request) (r : LineRecord) (k : Kind) → r.owner ≡ Memory
+    → (awaiting_write_back q r k).left.owner ≡ owner_by q.source k Memory
+awaiting_write_back-owner q r GetS is = is
+awaiting_write_back-owner q r GetM is = refl
+awaiting_write_back-owner q r PutM is = is
 
 by_tile-owner : (q : Request) (r : LineRecord) (t : ℕ) (k : Kind) → r.owner ≡ Tile t
     → (owned_by_tile q r t k).left.owner ≡ owner_by q.source k (Tile t)
@@ -83,9 +83,9 @@ by_tile-owner q r t GetM is = refl
 by_tile-owner q r t PutM is = given_by r t (t == q.source) is
 
 memory-owner : (q : Request) (r : LineRecord) (b : Bool) → r.owner ≡ Memory
-    → (if b then from_memory q r q.kind else behind_back q r q.kind).left.owner ≡ owner_by q.source q.kind Memory
+    → (if b then from_memory q r q.kind else awaiting_write_back q r q.kind).left.owner ≡ owner_by q.source q.kind Memory
 memory-owner q r true is = from_memory-owner q r q.kind is
-memory-owner q r false is = behind_back-owner q r q.kind is
+memory-owner q r false is = awaiting_write_back-owner q r q.kind is
 
 answered_by-owner : (q : Request) (r : LineRecord) (o : Owner) → r.owner ≡ o → (answered_by q r o).left.owner ≡ owner_by q.source q.kind o
 answered_by-owner q r Memory is = memory-owner q r r.fresh is

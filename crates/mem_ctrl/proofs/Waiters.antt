@@ -28,6 +28,6 @@ ends_more [] w = refl
 ends_more (v ∷ []) w = refl
 ends_more (v ∷ u ∷ list) w = ends_more (u ∷ list) w
 
--- one more waits behind tiles that are to read
+-- one more waits after tiles that are to read
 pub WritesLast-more : (list : List Waiting) (w : Waiting) → ¬ IsTrue (ends_in_getm list) → WritesLast list → WritesLast (list ++ w ∷ [])
 WritesLast-more list w readers last = any_more list w (last ∙ not_true (ends_in_getm list) readers) ∙ sym (ends_more list w)

@@ -1,4 +1,4 @@
--- A description that is accepted keeps to every limit.
+-- A document that is accepted keeps to every limit.
 use Rattle.std.proofs.Common.{◌≡◌, ℕ, zero, suc, ◌+◌, ◌-◌, ◌*◌, ◌<◌, max, Bool, true, false, not, List, [], ◌∷◌, ◌++◌, length, Option, Some, None, Ok, is_some, refl, sym, ap, ◌∙◌, subst, arith}
 use Rattle.std.specs.Prelude.{replicate}
 use Rattle.std.specs.List.{flat_map, AllByRecursion}
@@ -16,7 +16,7 @@ use Rattle.doc_text.specs.Limits.{ArePosts}
 use Rattle.doc_text.specs.Doc.{Doc}
 use Rattle.mesh_doc.specs.Tables.{table_of, cores_of, value}
 use Rattle.mesh_doc.specs.Values.{Sizes, number_in, number_of, repeated, tiles, windows, words, is_within}
-use Rattle.mesh_doc.specs.Faults.{fault_if, mesh_table, mesh_sizes, tile_count, range_fault, range_faults, core_range_fault, out_of_range, controllers, core_tiles, controllers_twice, cores_twice, bad_programs, table_faults, value_faults, faults}
+use Rattle.mesh_doc.specs.Faults.{fault_if, mesh_table, mesh_sizes, tiles_described, range_fault, range_faults, core_range_fault, out_of_range, controllers, core_tiles, controllers_twice, cores_twice, bad_programs, table_faults, value_faults, faults}
 use Rattle.mesh_doc.specs.Reading.{image, below, document, first, accepted, reading_of, reading_if, reading}
 use Rattle.mesh_doc.specs.Laws.{KeepsLimits}
 use Rattle.mesh_doc.proofs.Firsts.{first_none}
@@ -50,16 +50,16 @@ number_kept least most datum is =
 
 -- ---- lists
 
-positive : (top : Members) → IsFrom 1 most_side (mesh_sizes top).cols → IsFrom 1 most_side (mesh_sizes top).rows → 0 < tile_count top
+positive : (top : Members) → IsFrom 1 most_side (mesh_sizes top).cols → IsFrom 1 most_side (mesh_sizes top).rows → 0 < tiles_described top
 positive top cols rows = product_positive (mesh_sizes top).cols (mesh_sizes top).rows cols.low rows.low
 
-controllers_kept : (top : Members) → 0 < tile_count top → is_some (tiles (tile_count top) (value Controllers (mesh_table top))) ≡ true → controllers_twice (controllers top) ≡ []
-    → AreTiles (tile_count top) (controllers top)
+controllers_kept : (top : Members) → 0 < tiles_described top → is_some (tiles (tiles_described top) (value Controllers (mesh_table top))) ≡ true → controllers_twice (controllers top) ≡ []
+    → AreTiles (tiles_described top) (controllers top)
 controllers_kept top some is none =
-    let (list, said) = there (tiles (tile_count top) (value Controllers (mesh_table top))) is in
+    let (list, said) = there (tiles (tiles_described top) (value Controllers (mesh_table top))) is in
     let same : controllers top ≡ list = ap (λ (o : Option (List ℕ)). unwrap_or o []) said in
     let single : repeated list ≡ [] = subst (λ (l : List ℕ). repeated l ≡ []) same (nothing_mapped _ (repeated (controllers top)) none) in
-    subst (AreTiles (tile_count top)) (sym same) (AreTiles-tiles (tile_count top) some (value Controllers (mesh_table top)) list said single)
+    subst (AreTiles (tiles_described top)) (sym same) (AreTiles-tiles (tiles_described top) some (value Controllers (mesh_table top)) list said single)
 
 posts_kept : (count : ℕ) → 0 < count → (datum : Data) → is_some (windows count datum) ≡ true → ArePosts count (unwrap_or (windows count datum) [])
 posts_kept count some datum is =
@@ -108,7 +108,7 @@ keeps top is =
     let size = range_faults (mesh_table top) (Cols ∷ Rows ∷ []) in
     let posted = range_fault (mesh_sizes top) top Posts in
     let others = range_faults (mesh_table top) (Window ∷ Vcs ∷ DataVcs ∷ Lines ∷ Sets ∷ Ways ∷ Controllers ∷ Memory ∷ []) in
-    let (inside, _) = halves ((size ++ posted) ++ others) (flat_map (core_range_fault (tile_count top)) (cores_of top)) within in
+    let (inside, _) = halves ((size ++ posted) ++ others) (flat_map (core_range_fault (tiles_described top)) (cores_of top)) within in
     let (ahead, rest) = halves (size ++ posted) others inside in
     let (sized, posts) = halves size posted ahead in
     let (cols, sized_2) = halves (numbers top Cols) (numbers top Rows ++ []) sized in
@@ -139,8 +139,8 @@ keeps top is =
       controllers = controllers_kept top some (kept sizes mesh Controllers listed) single;
       memory = words_kept.long;
       words = words_kept.limited;
-      programs = length-map (below (tile_count top)) _ ∙ length-below (tile_count top);
-      posts = posts_kept (tile_count top) some (value Posts top) (kept sizes top Posts posts);
+      programs = length-map (below (tiles_described top)) _ ∙ length-below (tiles_described top);
+      posts = posts_kept (tiles_described top) some (value Posts top) (kept sizes top Posts posts);
     }
 
 accepted_only : (found : Option DocFault) (doc d : Doc) → accepted found doc ≡ Ok d → (found ≡ None) × (doc ≡ d)

@@ -4,7 +4,7 @@ use Rattle.std.specs.List.{filter_map, enumerate_from}
 use Rattle.std.proofs.lemmas.Option.{same_Some}
 use Rattle.toml.specs.Data.{Data, Items, Members, string, integer, float, boolean, datetime, array, table, as_array}
 use Rattle.doc_text.specs.declared.key.Key.TheVariants.{Core}
-use Rattle.mesh_doc.specs.Tables.{written, items, listed, core_part, cores_of}
+use Rattle.mesh_doc.specs.Tables.{written_value, items, listed, core_part, cores_of}
 
 items-list : (datum : Data) (list : Items) → Some list ≡ as_array datum → items datum ≡ listed list
 items-list (string s) list is = cc
@@ -24,15 +24,15 @@ items-none (datetime d) is = refl
 items-none (array found) is = cc
 items-none (table rows) is = refl
 
-pub cores-listed : (top : Members) (datum : Data) (list : Items) → Some datum ≡ written Core top → Some list ≡ as_array datum
+pub cores-listed : (top : Members) (datum : Data) (list : Items) → Some datum ≡ written_value Core top → Some list ≡ as_array datum
     → cores_of top ≡ filter_map core_part (enumerate_from 0 (listed list))
 unfolding cores_of
 cores-listed top datum list is seen = rw (← is, items-list datum list seen) refl
 
-pub cores-other : (top : Members) (datum : Data) → Some datum ≡ written Core top → None ≡ as_array datum → cores_of top ≡ []
+pub cores-other : (top : Members) (datum : Data) → Some datum ≡ written_value Core top → None ≡ as_array datum → cores_of top ≡ []
 unfolding cores_of
 cores-other top datum is seen = rw (← is, items-none datum seen) refl
 
-pub cores-none : (top : Members) → None ≡ written Core top → cores_of top ≡ []
+pub cores-none : (top : Members) → None ≡ written_value Core top → cores_of top ≡ []
 unfolding cores_of
 cores-none top is = rw (← is) refl

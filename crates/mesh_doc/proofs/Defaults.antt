@@ -4,10 +4,10 @@ use Rattle.toml.specs.Data.{Members}
 use Rattle.doc_text.specs.declared.key.Key.{Key}
 use Rattle.doc_text.specs.declared.column.Omitted.TheVariants.{FirstTile, Empty}
 use Rattle.doc_text.specs.Keys.{row_of}
-use Rattle.mesh_doc.specs.Tables.{written, value, default}
+use Rattle.mesh_doc.specs.Tables.{written_value, value, default}
 use Rattle.mesh_doc.specs.Values.{number_in, each, items_in, list_in, tiles, windows, words}
 
-pub value-default : (key : Key) (top : Members) → None ≡ written key top → value key top ≡ default (row_of key).omitted
+pub value-default : (key : Key) (top : Members) → None ≡ written_value key top → value key top ≡ default (row_of key).omitted
 value-default key top is = rw (← is) refl
 
 pub tiles-default : (count : ℕ) → 0 < count → tiles count (default FirstTile) ≡ Some (0 ∷ [])

@@ -9,14 +9,14 @@ use Rattle.mesh_doc.specs.declared.end.DocEnd.{DocEnd}
 use Rattle.mesh_doc.specs.declared.end.DocEnd.TheVariants.{NoMemory}
 use Rattle.mesh_doc.specs.declared.said.Said.{Said}
 use Rattle.mesh_doc.specs.Tables.{cores_of}
-use Rattle.mesh_doc.specs.Faults.{tile_count, out_of_range, controllers, core_tiles, controllers_twice, cores_twice, bad_programs, value_faults}
-use Rattle.mesh_doc.specs.Reading.{first, document, program_of, below}
+use Rattle.mesh_doc.specs.Faults.{tiles_described, out_of_range, controllers, core_tiles, controllers_twice, cores_twice, bad_programs, value_faults}
+use Rattle.mesh_doc.specs.Reading.{first, document, program_of_tile, below}
 use Rattle.mesh_doc.specs.Seen.{IsFirst, Ends}
 use Rattle.mesh_doc.specs.Said.{Says, count_of, IsDocumentOf}
 use Rattle.mesh_doc.proofs.Firsts.{first_front, first_rest, end_front, end_rest, both_empty}
 use Rattle.mesh_doc.proofs.Ranges.{count_is}
 
-pub count_said : (top : Members) (said : Said) → Says top said → tile_count top ≡ count_of said
+pub count_said : (top : Members) (said : Said) → Says top said → tiles_described top ≡ count_of said
 count_said top said says = count_is top said.extent says.extent
 
 pub controllers_said : (top : Members) (said : Said) → Says top said → controllers top ≡ said.controllers.items
@@ -74,7 +74,7 @@ ended faults (Err end) none memory = rw memory tt
 
 -- ---- what the table describes
 
-described : (top : Members) (said : Said) (placed : List (List Instr)) (d : Document) → Says top said → placed ≡ map (program_of (tile_count top) (cores_of top)) (below (tile_count top)) → IsDocumentOf said placed d
+described : (top : Members) (said : Said) (placed : List (List Instr)) (d : Document) → Says top said → placed ≡ map (program_of_tile (tiles_described top) (cores_of top)) (below (tiles_described top)) → IsDocumentOf said placed d
     → document top ≡ doc_of d
 unfolding document
 described top said placed d says all is =
@@ -105,7 +105,7 @@ described top said placed d says all is =
       says.posts,
     ) refl
 
-pub read_is : (top : Members) (said : Said) (placed : List (List Instr)) (read : Result Document DocEnd) → Says top said → placed ≡ map (program_of (tile_count top) (cores_of top)) (below (tile_count top))
+pub read_is : (top : Members) (said : Said) (placed : List (List Instr)) (read : Result Document DocEnd) → Says top said → placed ≡ map (program_of_tile (tiles_described top) (cores_of top)) (below (tiles_described top))
     → IfOk read (IsDocumentOf said placed) → IfOk read (λ d. document top ≡ doc_of d)
 read_is top said placed (Ok d) says all is = described top said placed d says all is
 read_is top said placed (Err end) says all is = tt

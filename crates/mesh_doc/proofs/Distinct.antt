@@ -8,7 +8,7 @@ use Rattle.mesh_gen.specs.TileSet.{is_among}
 use Rattle.mesh_gen.specs.Limits.{AreTiles}
 use Rattle.toml.specs.Data.{Data}
 use Rattle.doc_text.specs.Limits.{ArePosts}
-use Rattle.mesh_doc.specs.Values.{repeated, repeated_after, is_empty, if_distinct, number_in, tile, tiles, window, windows, words}
+use Rattle.mesh_doc.specs.Values.{repeated, repeated_after, has_no_items, if_distinct, number_in, tile, tiles, window, windows, words}
 use Rattle.mesh_doc.proofs.Items.{from_only_if, bind_some, list_in-all}
 use Rattle.mesh_doc.proofs.Numbers.{number_in-limits}
 
@@ -61,7 +61,7 @@ AreTiles-tiles count some value list is none =
     let (inside, low, high) = list_in-all (λ t. t < count) 1 count (tile count) (tile_inside count some) value list is in
     record { some = omega (arith, low); distinct = distinct_after [] list none; inside = inside }
 
-empty_is : (list : List ℕ) → is_empty list ≡ true → list ≡ []
+empty_is : (list : List ℕ) → has_no_items list ≡ true → list ≡ []
 empty_is [] is = refl
 empty_is (n ∷ rest) is = cc
 
@@ -69,7 +69,7 @@ AreTiles-window : (count : ℕ) → 0 < count → (value : Data) (list : List �
 unfolding window
 AreTiles-window count some value list is =
     let (found, said, kept) = bind_some if_distinct (tiles count value) list is in
-    let (empty, same) = from_only_if (is_empty (repeated found)) (Some found) list kept in
+    let (empty, same) = from_only_if (has_no_items (repeated found)) (Some found) list kept in
     rw (← same_Some _ _ same) (AreTiles-tiles count some value found said (empty_is (repeated found) empty))
 
 pub ArePosts-windows : (count : ℕ) → 0 < count → (value : Data) (list : List (List ℕ)) → windows count value ≡ Some list → ArePosts count list

@@ -19,7 +19,7 @@ pub listed-view : (values : List Value) → listed (items_view values) ≡ map v
 listed-view [] = refl
 listed-view (value ∷ values) = ap (λ rest. view value ∷ rest) (listed-view values)
 
--- one item, and those behind it
+-- one item, and those after it
 pub listed-drop : (values : List Value) (i : ℕ) (value : Value) → i < length values → value ≡ get_or values i value
     → listed (items_view (drop i values)) ≡ view value ∷ listed (items_view (drop (i + 1) values))
 listed-drop values i value within at = rw (items_view-drop values i value within, ← at) refl

@@ -9,7 +9,7 @@ use Rattle.toml.specs.Data.{no_members}
 use Rattle.doc_text.specs.declared.fault.Place.TheVariants.{Top}
 use Rattle.mesh_doc.specs.Tables.{Part}
 use Rattle.mesh_doc.specs.Faults.{core_tile}
-use Rattle.mesh_doc.specs.Reading.{below, program_in, program_of}
+use Rattle.mesh_doc.specs.Reading.{below, program_in, program_of_tile}
 
 pub length-below : (n : ℕ) → length (below n) ≡ n
 length-below zero = refl
@@ -79,8 +79,8 @@ pub tile_is : (count : ℕ) (P : List Part) (tiles : List ℕ) (k : ℕ) → k <
 tile_is count P tiles k within is = rw is (get_or-map (core_tile count) P k nothing 0 within)
 
 pub placed_more : (count : ℕ) (P : List Part) (k : ℕ) (placed : List (List Instr)) (tile : ℕ) (program : List Instr) → k < length P → tile ≡ core_tile count (get_or P k nothing)
-    → program ≡ program_in (get_or P k nothing) → placed ≡ map (program_of count (drop (k + 1) P)) (below count)
-    → slice_set placed tile program ≡ map (program_of count (drop k P)) (below count)
-unfolding program_of
+    → program ≡ program_in (get_or P k nothing) → placed ≡ map (program_of_tile count (drop (k + 1) P)) (below count)
+    → slice_set placed tile program ≡ map (program_of_tile count (drop k P)) (below count)
+unfolding program_of_tile
 placed_more count P k placed tile program within at is so_far =
-    rw so_far (put_at (program_of count (drop (k + 1) P)) (program_of count (drop k P)) count tile program (λ t. rw (drop_more P k nothing within, at, is) refl))
+    rw so_far (put_at (program_of_tile count (drop (k + 1) P)) (program_of_tile count (drop k P)) count tile program (λ t. rw (drop_more P k nothing within, at, is) refl))

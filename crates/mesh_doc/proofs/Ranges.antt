@@ -9,7 +9,7 @@ use Rattle.doc_text.specs.declared.fault.DocFault.{DocFault}
 use Rattle.mesh_doc.specs.declared.end.DocEnd.{DocEnd}
 use Rattle.mesh_doc.specs.declared.sizes.Extent.{Extent}
 use Rattle.mesh_doc.specs.Tables.{cores_of}
-use Rattle.mesh_doc.specs.Faults.{mesh_table, mesh_sizes, tile_count, range_fault, range_faults, core_range_fault, out_of_range}
+use Rattle.mesh_doc.specs.Faults.{mesh_table, mesh_sizes, tiles_described, range_fault, range_faults, core_range_fault, out_of_range}
 use Rattle.mesh_doc.specs.Reading.{first}
 use Rattle.mesh_doc.specs.Seen.{IsFirst, IsExtentOf}
 use Rattle.mesh_doc.proofs.Firsts.{first_front, first_rest, end_rest, both_empty}
@@ -22,7 +22,7 @@ pub ok_or-some : {A E : Type 0} (o : Option A) (e : E) (x : A) → Ok x ≡ ok_o
 ok_or-some None e x is = cc
 ok_or-some (Some y) e x is = cc
 
-pub count_is : (top : Members) (extent : Extent) → IsExtentOf (mesh_table top) extent → tile_count top ≡ extent.cols * extent.rows
+pub count_is : (top : Members) (extent : Extent) → IsExtentOf (mesh_table top) extent → tiles_described top ≡ extent.cols * extent.rows
 count_is top extent is = rw (is.cols, is.rows) refl
 
 -- ---- the parts of the list
@@ -43,7 +43,7 @@ abbrev pub of_words : Members → List DocFault
 of_words top = range_fault (mesh_sizes top) (mesh_table top) Memory
 
 abbrev pub of_tiles : Members → List DocFault
-of_tiles top = flat_map (core_range_fault (tile_count top)) (cores_of top)
+of_tiles top = flat_map (core_range_fault (tiles_described top)) (cores_of top)
 
 abbrev joined : (a p b c w t : List DocFault) → List DocFault
 joined a p b c w t = ((a ++ p) ++ (b ++ (c ++ (w ++ [])))) ++ t

@@ -1,4 +1,4 @@
--- What is wrong with a description: all faults of each kind, in the order in which they are looked for.
+-- What is wrong with a document: all faults of each kind, in the order in which they are looked for.
 use Rattle.std.specs.Prelude.{ℕ, Bool, true, false, not, ◌&&◌, if◌then◌else◌, List, [], ◌∷◌, ◌++◌, map, Result, Ok, Err, is_some, is_none}
 use Rattle.std.specs.List.{list_any, list_all, enumerate_from, flat_map}
 use Rattle.std.specs.Option.{option_to_list, unwrap_or}
@@ -17,7 +17,7 @@ use Rattle.doc_text.specs.declared.column.Omitted.TheVariants as omitted
 use Rattle.doc_text.specs.declared.fault.DocFault.{DocFault}
 use Rattle.doc_text.specs.declared.fault.DocFault.TheVariants as fault
 use Rattle.doc_text.specs.Keys.{row_of, keys_at}
-use Rattle.mesh_doc.specs.Tables.{Part, parts_of, cores_of, mesh_of, keys, items, written, value, level_of, position}
+use Rattle.mesh_doc.specs.Tables.{Part, parts_of, cores_of, table_of_mesh, keys, items, written_value, value, level_of, position}
 use Rattle.mesh_doc.specs.Values.{Sizes, sizes_of, tiles_of, is_within, tile, tiles, repeated}
 
 -- the fault, where it stands
@@ -49,7 +49,7 @@ is_needed omitted.Refused = true
 is_needed _ = false
 
 abbrev pub missing_key : Part → Key → List DocFault
-missing_key part key = fault_if (is_needed (row_of key).omitted && is_none (written key part.table)) (fault.Missing key (position part.place))
+missing_key part key = fault_if (is_needed (row_of key).omitted && is_none (written_value key part.table)) (fault.Missing key (position part.place))
 
 unfoldable pub missing_in : Part → List DocFault
 missing_in part = flat_map (missing_key part) (keys_at (level_of part.place))
@@ -93,7 +93,7 @@ unfoldable pub wrong_value : Shape → Key → ℕ → Data → List DocFault
 wrong_value shape key at datum = fault_if (not (is_of shape datum)) (fault.WrongKind key at) ++ no_tables shape key datum
 
 abbrev pub wrong_at : Part → Key → List DocFault
-wrong_at part key = flat_map (wrong_value (row_of key).shape key (position part.place)) (option_to_list (written key part.table))
+wrong_at part key = flat_map (wrong_value (row_of key).shape key (position part.place)) (option_to_list (written_value key part.table))
 
 unfoldable pub wrong_in : Part → List DocFault
 wrong_in part = flat_map (wrong_at part) (keys_at (level_of part.place))
@@ -105,14 +105,14 @@ wrong_kinds top = flat_map wrong_in (parts_of top)
 
 -- the table of the mesh, and one without members where there is none
 abbrev pub mesh_table : Members → Members
-mesh_table top = unwrap_or (mesh_of top) no_members
+mesh_table top = unwrap_or (table_of_mesh top) no_members
 
 -- the sizes of the mesh, and how many tiles it has
 abbrev pub mesh_sizes : Members → Sizes
 mesh_sizes top = sizes_of (mesh_table top)
 
-abbrev pub tile_count : Members → ℕ
-tile_count top = tiles_of (mesh_sizes top)
+abbrev pub tiles_described : Members → ℕ
+tiles_described top = tiles_of (mesh_sizes top)
 
 unfoldable pub range_fault : Sizes → Members → Key → List DocFault
 range_fault sizes members key = fault_if (not (is_within sizes (row_of key).limit (value key members))) (fault.Range key 0)
@@ -128,19 +128,19 @@ out_of_range top =
     range_faults (mesh_table top) (Cols ∷ Rows ∷ []) ++
     range_fault (mesh_sizes top) top Posts ++
     range_faults (mesh_table top) (Window ∷ Vcs ∷ DataVcs ∷ Lines ∷ Sets ∷ Ways ∷ Controllers ∷ Memory ∷ []) ++
-    flat_map (core_range_fault (tile_count top)) (cores_of top)
+    flat_map (core_range_fault (tiles_described top)) (cores_of top)
 
 -- ---- a tile that stands twice: among the controllers, and as the tile of a core
 
 -- the tiles with a controller, and the tiles of the cores
 abbrev pub controllers : Members → List ℕ
-controllers top = unwrap_or (tiles (tile_count top) (value Controllers (mesh_table top))) []
+controllers top = unwrap_or (tiles (tiles_described top) (value Controllers (mesh_table top))) []
 
 abbrev pub core_tile : ℕ → Part → ℕ
 core_tile count core = unwrap_or (tile count (value Tile core.table)) 0
 
 abbrev pub core_tiles : Members → List ℕ
-core_tiles top = map (core_tile (tile_count top)) (cores_of top)
+core_tiles top = map (core_tile (tiles_described top)) (cores_of top)
 
 abbrev pub controllers_twice : List ℕ → List DocFault
 controllers_twice list = map (λ again. fault.Controllers) (repeated list)
@@ -162,7 +162,7 @@ unfoldable pub bad_program : ℕ → Part → List DocFault
 bad_program count core = no_program (core_tile count core) (core_program core)
 
 abbrev pub bad_programs : Members → List DocFault
-bad_programs top = flat_map (bad_program (tile_count top)) (cores_of top)
+bad_programs top = flat_map (bad_program (tiles_described top)) (cores_of top)
 
 -- the faults of the tables themselves, and those of what they say
 unfoldable pub table_faults : Members → List DocFault
@@ -171,6 +171,6 @@ table_faults top = unknown_keys top ++ missing_keys top ++ wrong_kinds top
 unfoldable pub value_faults : Members → List DocFault
 value_faults top = out_of_range top ++ controllers_twice (controllers top) ++ cores_twice (core_tiles top) ++ bad_programs top
 
--- all faults of a description
+-- all faults of a document
 abbrev pub faults : Members → List DocFault
 faults top = table_faults top ++ value_faults top

@@ -1,11 +1,11 @@
--- What holds of every description that is accepted.
+-- What holds of every document that is accepted.
 use Rattle.std.specs.Prelude.{◌≡◌, ◌+◌, ◌-◌, ◌*◌, max, length}
 use Rattle.std.specs.List.{AllByRecursion}
 use Rattle.mesh_gen.specs.Limits.{IsFrom, AreTiles, most_side}
 use Rattle.doc_text.specs.Limits.{ArePosts}
 use Rattle.doc_text.specs.Doc.{Doc}
 
--- every limit of a description
+-- every limit of a document
 pub record KeepsLimits (doc : Doc) : Type 0 where
   pub cols : IsFrom 1 most_side doc.cols
   pub rows : IsFrom 1 most_side doc.rows

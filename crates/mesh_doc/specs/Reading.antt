@@ -13,7 +13,7 @@ use Rattle.mesh_doc.specs.declared.end.DocEnd.{DocEnd}
 use Rattle.mesh_doc.specs.declared.end.DocEnd.TheVariants.{Fault, NoMemory}
 use Rattle.mesh_doc.specs.Tables.{Part, table_of, cores_of, value}
 use Rattle.mesh_doc.specs.Values.{number_of, windows, words}
-use Rattle.mesh_doc.specs.Faults.{faults, mesh_table, mesh_sizes, tile_count, controllers, core_tile, core_program}
+use Rattle.mesh_doc.specs.Faults.{faults, mesh_table, mesh_sizes, tiles_described, controllers, core_tile, core_program}
 
 -- the words of memory, those that are not written being 0
 abbrev pub image : ℕ → List ℕ → List ℕ
@@ -29,9 +29,9 @@ abbrev pub program_in : Part → List Instr
 program_in core = unwrap_or (result_ok (core_program core)) []
 
 -- the program of a tile: that of its core's table, or the empty one
-unfoldable pub program_of : ℕ → List Part → ℕ → List Instr
-program_of count [] tile = []
-program_of count (core ∷ rest) tile = if core_tile count core == tile then program_in core else program_of count rest tile
+unfoldable pub program_of_tile : ℕ → List Part → ℕ → List Instr
+program_of_tile count [] tile = []
+program_of_tile count (core ∷ rest) tile = if core_tile count core == tile then program_in core else program_of_tile count rest tile
 
 -- what a table describes that has no fault
 unfoldable pub document : Members → Doc
@@ -49,8 +49,8 @@ document top =
       ways = number_of (value Ways mesh);
       controllers = controllers top;
       memory = image (4 * sizes.lines) (unwrap_or (words sizes.lines (value Memory mesh)) []);
-      programs = map (program_of (tile_count top) (cores_of top)) (below (tile_count top));
-      posts = unwrap_or (windows (tile_count top) (value Posts top)) [];
+      programs = map (program_of_tile (tiles_described top) (cores_of top)) (below (tiles_described top));
+      posts = unwrap_or (windows (tiles_described top) (value Posts top)) [];
     }
 
 -- the first of some
@@ -74,7 +74,7 @@ reading_if (Some top) = reading_of top
 unfoldable pub reading : List ℕ → Result Doc DocFault
 reading bytes = reading_if (table_of bytes)
 
--- the fault is what is wrong; want of memory says nothing
+-- the fault is what is wrong; out of memory says nothing
 abbrev pub IsFaultOf : Result Doc DocFault → DocEnd → Type 0
 IsFaultOf read (Fault fault) = read ≡ Err fault
 IsFaultOf read NoMemory = ⊤

@@ -1,4 +1,4 @@
--- Worked descriptions: what is read, or the first fault.
+-- Worked documents: what is read, or the first fault.
 use Rattle.std.specs.Prelude.{◌≡◌, ℕ, List, [], ◌∷◌, Result, Ok, Err, codes, refl}
 use Rattle.toml.specs.Parse.{parse_document}
 use Rattle.toml.proofs.OnLiterals.{toml_on_literals}
@@ -10,7 +10,7 @@ use Rattle.doc_text.specs.declared.fault.DocFault.TheVariants.{UnknownKey, Missi
 use Rattle.mesh_doc.specs.Tables.{cores_of, parts_of}
 use Rattle.mesh_doc.specs.Values.{number_in, each, items_in, list_in, repeated_after, window}
 use Rattle.mesh_doc.specs.Faults.{unknown_in, missing_in, wrong_value, wrong_in, range_fault, core_range_fault, bad_program, table_faults, value_faults}
-use Rattle.mesh_doc.specs.Reading.{program_of, document, reading_of, reading_if}
+use Rattle.mesh_doc.specs.Reading.{program_of_tile, document, reading_of, reading_if}
 
 -- what a text describes that is UTF-8
 abbrev pub of_text : List ℕ → Result Doc DocFault
@@ -47,5 +47,5 @@ defaults : of_text (codes "mesh = { cols = 1, rows = 1, window = 1, lines = 1 }"
   programs = [] ∷ [];
   posts = [];
 })
-unfolding toml_on_literals cores_of parts_of unknown_in missing_in wrong_value wrong_in number_in each items_in list_in repeated_after window range_fault core_range_fault bad_program table_faults value_faults program_of document reading_of
+unfolding toml_on_literals cores_of parts_of unknown_in missing_in wrong_value wrong_in number_in each items_in list_in repeated_after window range_fault core_range_fault bad_program table_faults value_faults program_of_tile document reading_of
 defaults = refl

@@ -25,7 +25,7 @@ pub record Says (top : Members) (said : Said) : Type 0 where
   pub words : words said.sizes.lines (value Memory (mesh_table top)) ≡ Some said.words.items
   pub core_tiles : core_tiles top ≡ said.core_tiles.items
 
--- the description of what was said, with these programs
+-- the document of what was said, with these programs
 pub record IsDocumentOf (said : Said) (placed : List (List Instr)) (document : Document) : Type 0 where
   pub cols : document.mesh.cols ≡ said.extent.cols
   pub rows : document.mesh.rows ≡ said.extent.rows

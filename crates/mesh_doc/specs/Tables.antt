@@ -1,4 +1,4 @@
--- The tables of a description that have keys of their own.
+-- The tables of a document that have keys of their own.
 use Rattle.std.specs.Prelude.{ℕ, pos, if◌then◌else◌, List, [], ◌∷◌, ◌++◌, Option, Some, None, option_map, option_and_then}
 use Rattle.std.specs.List.{enumerate_from, filter_map}
 use Rattle.std.specs.Option.{unwrap_or}
@@ -34,8 +34,8 @@ items (array list) = listed list
 items _ = []
 
 -- what is written for a key in its table
-abbrev pub written : Key → Members → Option Data
-written key table = get_member (row_of key).name table
+abbrev pub written_value : Key → Members → Option Data
+written_value key table = get_member (row_of key).name table
 
 -- what stands for a key that is left out
 abbrev pub default : Omitted → Data
@@ -46,9 +46,9 @@ default Empty = array no_items
 
 -- the value of a key: what is written for it, or else what stands for it
 abbrev pub value : Key → Members → Data
-value key table = unwrap_or (written key table) (default (row_of key).omitted)
+value key table = unwrap_or (written_value key table) (default (row_of key).omitted)
 
--- a table with keys of its own, and its place in the description
+-- a table with keys of its own, and its place in the document
 pub record Part : Type 0 where
   pub place : Place
   pub table : Members
@@ -64,8 +64,8 @@ position (Core at) = at
 position _ = 0
 
 -- the table of the mesh, where it is one
-abbrev pub mesh_of : Members → Option Members
-mesh_of top = option_and_then as_table (written key.Mesh top)
+abbrev pub table_of_mesh : Members → Option Members
+table_of_mesh top = option_and_then as_table (written_value key.Mesh top)
 
 -- an item of the list of cores that is a table
 abbrev pub core_part : ℕ × Data → Option Part
@@ -81,4 +81,4 @@ mesh_part None = []
 mesh_part (Some mesh) = record { place = Mesh; table = mesh } ∷ []
 
 unfoldable pub parts_of : Members → List Part
-parts_of top = record { place = Top; table = top } ∷ mesh_part (mesh_of top) ++ cores_of top
+parts_of top = record { place = Top; table = top } ∷ mesh_part (table_of_mesh top) ++ cores_of top

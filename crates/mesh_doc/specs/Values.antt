@@ -55,9 +55,9 @@ abbrev pub number_of : Data → ℕ
 number_of (integer (pos n)) = n
 number_of _ = 0
 
-abbrev pub is_empty : {A : Type 0} → List A → Bool
-is_empty [] = true
-is_empty (x ∷ rest) = false
+abbrev pub has_no_items : {A : Type 0} → List A → Bool
+has_no_items [] = true
+has_no_items (x ∷ rest) = false
 
 -- the sizes that limits depend on
 pub record Sizes : Type 0 where
@@ -81,7 +81,7 @@ abbrev pub tiles : ℕ → Data → Option (List ℕ)
 tiles count datum = list_in 1 count (tile count) datum
 
 abbrev pub if_distinct : List ℕ → Option (List ℕ)
-if_distinct list = only_if (is_empty (repeated list)) (Some list)
+if_distinct list = only_if (has_no_items (repeated list)) (Some list)
 
 -- the tiles that post in a window, each once
 unfoldable pub window : ℕ → Data → Option (List ℕ)

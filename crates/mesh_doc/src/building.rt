@@ -8,18 +8,18 @@ ghost use Rattle.doc_text.specs.Limits.{ArePosts};
 ghost use Rattle.mesh_doc.specs.Tables.{cores_of, value, listed};
 ghost use Rattle.mesh_doc.specs.Values.{tiles, windows, window, words, each};
 ghost use Rattle.mesh_doc.specs.Faults.{out_of_range, core_range_fault, core_tile, bad_program, value_faults, controllers_twice, cores_twice};
-ghost use Rattle.mesh_doc.specs.Reading.{document, image, program_of, below};
+ghost use Rattle.mesh_doc.specs.Reading.{document, image, program_of_tile, below};
 ghost use Rattle.mesh_doc.specs.declared.end.DocEnd.TheVariants.{NoMemory as OutOfMemory};
 ghost use Rattle.mesh_doc.specs.MeshSeen.{mesh_seen};
 ghost use Rattle.mesh_doc.specs.Seen.{part_seen, parts_seen, Finds, Ends};
 ghost use Rattle.mesh_doc.specs.Said.{Says, count_of, IsDocumentOf};
 
 use crate::DocEnd;
-use crate::part::{Part, written};
+use crate::part::{Part, written_value};
 use crate::programs::{assemble_cores, place_programs};
 use crate::said::Said;
 use crate::sizes::{Extent, Sizes, number_at, out_of_range, written_in};
-use crate::tables::mesh_of;
+use crate::tables::table_of_mesh;
 use crate::values::{first_repeated, items_in, read_tiles, read_words};
 use core_isa::Program;
 use doc_text::{DocFault, Document, Key, Posts};
@@ -56,7 +56,7 @@ fn read_programs(
 ) -> Result<Vec<Program>, DocEnd>
     requires { tiles.now ≡ map (core_tile count) (parts_seen cores.now) }
     ensures faults { Ends (flat_map (bad_program count) (parts_seen cores.now)) result }
-    ensures programs { IfOk result (λ placed. placed.items ≡ map (program_of count (parts_seen cores.now)) (below count)) }
+    ensures programs { IfOk result (λ placed. placed.items ≡ map (program_of_tile count (parts_seen cores.now)) (below count)) }
 {
     let programs = assemble_cores(alloc, cores, tiles, count)?;
     Ok(place_programs(alloc, programs, cores, tiles, count)?)
@@ -68,7 +68,7 @@ fn read_limited<'a>(alloc: Global, top: &'a Table, cores: &[Part<'a>]) -> Result
     ensures faults { Ends (out_of_range (table_view top.now)) result }
     ensures said { IfOk result (Says (table_view top.now)) }
 {
-    let mesh = mesh_of(top);
+    let mesh = table_of_mesh(top);
     let extent = Extent::read(mesh)?;
     let count = extent.tiles();
     let posts = read_posts(alloc, top, count)?.ok_or(out_of_range(Key::Posts))?;
@@ -90,7 +90,7 @@ fn read_posts(alloc: Global, top: &Table, count: u8) -> Result<Option<Posts>, No
     requires { 0 < count }
     ensures { IfOk result (λ found. found ≡ windows count (value AtPosts (table_view top.now))) }
 {
-    match written(top, Key::Posts) {
+    match written_value(top, Key::Posts) {
         Some(value) => read_windows(alloc, value, count),
         None => Ok(Some(Items::new(Vec::new(alloc)))),
     }
@@ -217,7 +217,7 @@ fn check_core_tiles(tiles: &[u8]) -> Result<(), DocFault>
     }
 }
 
-// The description of what was said, with these programs.
+// The document of what was said, with these programs.
 fn document_of(said: Said, programs: Vec<Program>) -> Result<Document, DocEnd>
     requires window { IsFrom (max 1 ((said.extent.cols - 1) + (said.extent.rows - 1))) 64 said.sizes.window }
     requires controllers { ∥ AreTiles (count_of said) said.controllers.items ∥₁ }

@@ -5,7 +5,7 @@ use doc_text::DocFault;
 use mesh_gen::NoMemory;
 use std::alloc::AllocFailed;
 
-/// Why no description was read.
+/// Why no document was read.
 #[derive(Debug, Drop)]
 pub enum DocEnd {
     /// The first fault.

@@ -1,4 +1,4 @@
-//! The reader of descriptions: any bytes are a description that keeps to every limit, or have a first fault.
+//! The reader of documents: any bytes are a document that keeps to every limit, or have a first fault.
 #![tactic(auto)]
 
 mod building;

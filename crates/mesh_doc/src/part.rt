@@ -1,6 +1,6 @@
 ghost use Rattle.std.specs.Prelude.{◌≡◌, option_map, IfOk};
 ghost use Rattle.toml.specs.View.{view, table_view};
-ghost use Rattle.mesh_doc.specs.Tables.{written, level_of, position};
+ghost use Rattle.mesh_doc.specs.Tables.{written_value, level_of, position};
 ghost use Rattle.mesh_doc.specs.Faults.{unknown_in, has_name, is_known, missing_in, wrong_in};
 ghost use Rattle.doc_text.specs.declared.fault.DocFault.TheVariants.{UnknownKey as IsUnknown};
 ghost use Rattle.mesh_doc.specs.declared.end.DocEnd.TheVariants.{Fault as EndOfFault};
@@ -12,7 +12,7 @@ use mesh_gen::{NoMemory, Text};
 use std::alloc::Global;
 use toml::{Table, Value};
 
-/// A table with keys of its own, and its place in the description.
+/// A table with keys of its own, and its place in the document.
 #[derive(Clone, Copy)]
 pub(crate) struct Part<'a> {
     pub(crate) place: Place,
@@ -20,8 +20,8 @@ pub(crate) struct Part<'a> {
 }
 
 // What is written for a key of a table.
-pub(crate) fn written<'a>(table: &'a Table, key: Key) -> Option<&'a Value>
-    ensures { option_map (λ v. view v.now) result ≡ written key (table_view table.now) }
+pub(crate) fn written_value<'a>(table: &'a Table, key: Key) -> Option<&'a Value>
+    ensures { option_map (λ v. view v.now) result ≡ written_value key (table_view table.now) }
 {
     table.get(key.name())
 }
@@ -96,7 +96,7 @@ impl<'a> Part<'a> {
     {
         let keys = self.level().keys();
         for key in keys {
-            if key.omitted() == Omitted::Refused && written(self.table, *key).is_none() {
+            if key.omitted() == Omitted::Refused && written_value(self.table, *key).is_none() {
                 let at = self.position();
                 return Err(DocFault::Missing { key: *key, at });
             }
@@ -110,7 +110,7 @@ impl<'a> Part<'a> {
     {
         let keys = self.level().keys();
         for key in keys {
-            if let Some(value) = written(self.table, *key) {
+            if let Some(value) = written_value(self.table, *key) {
                 check_value(*key, self.position(), value)?;
             }
         }

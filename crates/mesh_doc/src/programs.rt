@@ -1,11 +1,11 @@
 ghost use Rattle.std.specs.Prelude.{◌≡◌, [], map, slice_set, Ok, IfOk, IfErr};
 ghost use Rattle.std.specs.List.{flat_map};
 ghost use Rattle.mesh_doc.specs.Faults.{bad_program, core_tile, core_program};
-ghost use Rattle.mesh_doc.specs.Reading.{program_in, program_of, below};
+ghost use Rattle.mesh_doc.specs.Reading.{program_in, program_of_tile, below};
 ghost use Rattle.mesh_doc.specs.Seen.{part_seen, parts_seen, Ends, IsRefused};
 
 use crate::DocEnd;
-use crate::part::{Part, written};
+use crate::part::{Part, written_value};
 use core_isa::{AsmEnd, Program, assemble};
 use doc_text::{DocFault, Key};
 use mesh_gen::NoMemory;
@@ -33,7 +33,7 @@ fn assemble_core(alloc: Global, core: &Part<'_>, tile: u8) -> Result<Program, Do
     ensures program { IfOk result (λ program. core_program (part_seen core.now) ≡ Ok program) }
     ensures fault { IfErr result (IsRefused tile (core_program (part_seen core.now))) }
 {
-    let text = match written(core.table, Key::Code) {
+    let text = match written_value(core.table, Key::Code) {
         Some(value) => value.as_str().unwrap_or(""),
         None => "",
     };
@@ -54,7 +54,7 @@ pub(crate) fn place_programs(
 ) -> Result<Vec<Program>, NoMemory>
     requires programs { programs.items ≡ map program_in (parts_seen cores.now) }
     requires tiles { tiles.now ≡ map (core_tile count) (parts_seen cores.now) }
-    ensures { IfOk result (λ placed. placed.items ≡ map (program_of count (parts_seen cores.now)) (below count)) }
+    ensures { IfOk result (λ placed. placed.items ≡ map (program_of_tile count (parts_seen cores.now)) (below count)) }
 {
     let mut placed = empty_programs(alloc, count)?;
     let mut left = programs;
@@ -74,7 +74,7 @@ fn put(programs: &mut Vec<Program>, tile: u8, program: Program)
 }
 
 fn empty_programs(alloc: Global, count: u8) -> Result<Vec<Program>, NoMemory>
-    ensures { IfOk result (λ programs. programs.items ≡ map (program_of count []) (below count)) }
+    ensures { IfOk result (λ programs. programs.items ≡ map (program_of_tile count []) (below count)) }
 {
     let mut programs = Vec::new(alloc);
     for _tile in 0..count {

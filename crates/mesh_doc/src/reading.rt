@@ -12,7 +12,7 @@ use mesh_gen::NoMemory;
 use std::alloc::Global;
 use toml::Table;
 
-/// Reads a description, or tells its first fault. Faults are looked for kind by kind: bytes that are not TOML, unknown
+/// Reads a document, or tells its first fault. Faults are looked for kind by kind: bytes that are not TOML, unknown
 /// keys, missing keys, wrong kinds, values out of range, a tile with two controllers, a tile with two core tables,
 /// programs that do not assemble.
 pub fn read_document(alloc: Global, bytes: &[u8]) -> Result<Document, DocEnd>

@@ -1,7 +1,7 @@
 use crate::sizes::{Extent, Sizes};
 use doc_text::Posts;
 
-/// What the values of a description say that keep to their limits. The words of memory are those that are written.
+/// What the values of a document say that keep to their limits. The words of memory are those that are written.
 #[derive(Drop)]
 pub(crate) struct Said {
     pub(crate) extent: Extent,

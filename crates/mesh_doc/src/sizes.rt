@@ -4,12 +4,12 @@ ghost use Rattle.toml.specs.View.{view, table_view};
 ghost use Rattle.doc_text.specs.Keys.{row_of};
 ghost use Rattle.doc_text.specs.declared.key.Key.TheVariants.{Cols as AtCols, Rows as AtRows, Window as AtWindow, Vcs as AtVcs, DataVcs as AtDataVcs, Lines as AtLines, Sets as AtSets, Ways as AtWays};
 ghost use Rattle.doc_text.specs.declared.fault.DocFault.TheVariants.{Range as OutOfRange};
-ghost use Rattle.mesh_doc.specs.Tables.{written, default, value};
+ghost use Rattle.mesh_doc.specs.Tables.{written_value, default, value};
 ghost use Rattle.mesh_doc.specs.Values.{from_to, number_in};
 ghost use Rattle.mesh_doc.specs.Faults.{range_faults};
 ghost use Rattle.mesh_doc.specs.MeshSeen.{mesh_seen};
 
-use crate::part::written;
+use crate::part::written_value;
 use crate::values::number_in;
 use doc_text::{DocFault, Key, Omitted};
 use mesh_gen::MOST_SIDE;
@@ -49,10 +49,10 @@ pub(crate) fn out_of_range(key: Key) -> DocFault
 
 /// What is written for a key of the mesh.
 pub(crate) fn written_in<'a>(mesh: Option<&'a Table>, key: Key) -> Option<&'a Value>
-    ensures { option_map (λ v. view v.now) result ≡ written key (mesh_seen mesh.entry) }
+    ensures { option_map (λ v. view v.now) result ≡ written_value key (mesh_seen mesh.entry) }
 {
     match mesh {
-        Some(table) => written(table, key),
+        Some(table) => written_value(table, key),
         None => None,
     }
 }

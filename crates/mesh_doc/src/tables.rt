@@ -2,22 +2,22 @@ ghost use Rattle.std.specs.Prelude.{◌≡◌, ◌∷◌, IfOk, option_map};
 ghost use Rattle.std.specs.List.{flat_map, filter_map, enumerate_from};
 ghost use Rattle.toml.specs.View.{table_view, items_view};
 ghost use Rattle.doc_text.specs.declared.fault.Place.TheVariants.{Top as AtTop};
-ghost use Rattle.mesh_doc.specs.Tables.{mesh_of, mesh_part, cores_of, parts_of, core_part, listed};
+ghost use Rattle.mesh_doc.specs.Tables.{table_of_mesh, mesh_part, cores_of, parts_of, core_part, listed};
 ghost use Rattle.mesh_doc.specs.Faults.{unknown_in, missing_in, wrong_in, table_faults};
 ghost use Rattle.mesh_doc.specs.Seen.{parts_seen, Finds, Ends};
 
 use crate::DocEnd;
-use crate::part::{Part, written};
+use crate::part::{Part, written_value};
 use doc_text::{DocFault, Key, Place};
 use mesh_gen::NoMemory;
 use std::alloc::Global;
 use toml::{Table, Value};
 
 /// The table of the mesh, where it is one.
-pub(crate) fn mesh_of<'a>(top: &'a Table) -> Option<&'a Table>
-    ensures { option_map (λ t. table_view t.now) result ≡ mesh_of (table_view top.now) }
+pub(crate) fn table_of_mesh<'a>(top: &'a Table) -> Option<&'a Table>
+    ensures { option_map (λ t. table_view t.now) result ≡ table_of_mesh (table_view top.now) }
 {
-    match written(top, Key::Mesh) {
+    match written_value(top, Key::Mesh) {
         Some(value) => value.as_table(),
         None => None,
     }
@@ -27,7 +27,7 @@ pub(crate) fn mesh_of<'a>(top: &'a Table) -> Option<&'a Table>
 pub(crate) fn core_parts<'a>(alloc: Global, top: &'a Table) -> Result<Vec<Part<'a>>, NoMemory>
     ensures { IfOk result (λ cores. parts_seen cores.items ≡ cores_of (table_view top.now)) }
 {
-    match written(top, Key::Core) {
+    match written_value(top, Key::Core) {
         Some(value) => match value.as_array() {
             Some(items) => parts_in(alloc, items.as_slice()),
             None => Ok(Vec::new(alloc)),
@@ -52,14 +52,14 @@ fn parts_in<'a>(alloc: Global, items: &'a [Value]) -> Result<Vec<Part<'a>>, NoMe
 // The whole table, and that of the mesh.
 fn head_parts<'a>(alloc: Global, top: &'a Table) -> Result<Vec<Part<'a>>, NoMemory>
     ensures { IfOk result (λ parts. parts_seen parts.items
-        ≡ record { place = AtTop; table = table_view top.now } ∷ mesh_part (mesh_of (table_view top.now))) }
+        ≡ record { place = AtTop; table = table_view top.now } ∷ mesh_part (table_of_mesh (table_view top.now))) }
 {
     let mut parts = Vec::new(alloc);
     parts.push(Part {
         place: Place::Top,
         table: top,
     })?;
-    match mesh_of(top) {
+    match table_of_mesh(top) {
         Some(table) => {
             parts.push(Part {
                 place: Place::Mesh,

@@ -8,12 +8,12 @@ use Rattle.mesh_gen.specs.declared.port.Port.TheVariants.{L, E, W, N, S}
 use Rattle.mesh_gen.specs.Grid.{Grid, tiles, x_of, y_of, neighbour, distance}
 use Rattle.mesh_gen.specs.Ports.{count_if}
 use Rattle.mesh_gen.specs.Routes.{HasTiles}
-use Rattle.mesh_gen.specs.Tree.{leaves_by, covers, ways_to, Edge, Leads, here, there}
+use Rattle.mesh_gen.specs.Tree.{leaves_by, covers, outputs_to, Edge, Leads, here, there}
 use Rattle.mesh_gen.proofs.Beside.{Beside, beside, neighbour_inside}
-use Rattle.mesh_gen.proofs.Serves.{ways_to-edge, covers_leaves}
+use Rattle.mesh_gen.proofs.Serves.{outputs_to-edge, covers_leaves}
 
 -- a port that serves a tile is one way to it
-some_way : (g : Grid) (s r v : ℕ) (p : Port) → covers g s r v p ≡ true → 0 < ways_to g s r v
+some_way : (g : Grid) (s r v : ℕ) (p : Port) → covers g s r v p ≡ true → 0 < outputs_to g s r v
 some_way g s r v L serves = omega (arith, ap count_if serves)
 some_way g s r v E serves = omega (arith, ap count_if serves)
 some_way g s r v W serves = omega (arith, ap count_if serves)
@@ -25,7 +25,7 @@ counted true some = refl
 counted false some = absurd (omega arith)
 
 -- where there is a way, some port serves the tile
-pub way_of : (g : Grid) (s r v : ℕ) → 0 < ways_to g s r v → (p : Port) × (covers g s r v p ≡ true)
+pub way_of : (g : Grid) (s r v : ℕ) → 0 < outputs_to g s r v → (p : Port) × (covers g s r v p ≡ true)
 way_of g s r v some = pick (covers g s r v L) (covers g s r v E) (covers g s r v W) (covers g s r v N) (covers g s r v S) refl refl refl refl refl some
   where
     pick : (l e w n u : Bool) → covers g s r v L ≡ l → covers g s r v E ≡ e → covers g s r v W ≡ w → covers g s r v N ≡ n → covers g s r v S ≡ u → 0 < count_if l + count_if e + count_if w + count_if n + count_if u → (p : Port) × (covers g s r v p ≡ true)
@@ -41,7 +41,7 @@ pub covers_from_leads : (g : Grid) (s r v : ℕ) (p : Port) → HasTiles g → L
 covers_from_leads g s r v p some here = eq-eqb r r refl
 covers_from_leads g s r v p some (there {n = n} {next = q} edge leads) =
     let behind = covers_from_leads g s n v q some leads in
-    counted _ (omega (arith, some_way g s n v q behind, ways_to-edge g s r n v p some edge))
+    counted _ (omega (arith, some_way g s n v q behind, outputs_to-edge g s r n v p some edge))
 
 -- ---- what is served is led to: by induction on the distance
 
@@ -90,7 +90,7 @@ record FirstEdge (g : Grid) (s r v : ℕ) (p : Port) : Type 0 where
 first_edge : (g : Grid) (s r v : ℕ) (p : Port) → HasTiles g → r < tiles g → v < tiles g → p ≢ L → covers g s r v p ≡ true → FirstEdge g s r v p
 first_edge g s r v p some inside reached side serves =
     let edge = edge_from g s r p side (covers_leaves g s r v p some inside reached serves) in
-    let next = way_of g s edge.0 v (rw (ways_to-edge g s r edge.0 v p some edge.1, serves) (one_positive)) in
+    let next = way_of g s edge.0 v (rw (outputs_to-edge g s r edge.0 v p some edge.1, serves) (one_positive)) in
     record {
       entered = edge.0;
       next = next.0;

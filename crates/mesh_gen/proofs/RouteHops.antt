@@ -5,7 +5,7 @@ use Rattle.mesh_gen.specs.declared.port.Port.{Port}
 use Rattle.mesh_gen.specs.declared.port.Port.TheVariants.{L, E, W, N, S}
 use Rattle.mesh_gen.specs.Grid.{Grid, tiles, x_of, y_of, neighbour, distance}
 use Rattle.mesh_gen.specs.Ports.{opposite}
-use Rattle.mesh_gen.specs.Routes.{HasTiles, route, rank, Travels, enters, hops, MayStand}
+use Rattle.mesh_gen.specs.Routes.{HasTiles, route, rank, Travels, enters, hops, IsRouteChannel}
 use Rattle.mesh_gen.proofs.Coordinates.{x_below, y_below, same_tile}
 use Rattle.mesh_gen.proofs.Beside.{Beside, beside, neighbour_inside, has_neighbour_inside, east_of, west_of, north_of, south_of}
 
@@ -57,17 +57,17 @@ nearer_by g r dest n S stands heads = omega arith
 pub hop_nearer : (g : Grid) (r dest n : ℕ) → HasTiles g → neighbour g r (route g r dest) ≡ Some n → distance g r dest ≡ distance g n dest + 1
 hop_nearer g r dest n some next = nearer_by g r dest n (route g r dest) (beside g r (route g r dest) n some next) (heads g r dest (route g r dest) refl)
 
-stands_by : (g : Grid) (r dest n : ℕ) (p : Port) → Beside g r p n → Heads g r dest p → MayStand g dest n (opposite p)
+stands_by : (g : Grid) (r dest n : ℕ) (p : Port) → Beside g r p n → Heads g r dest p → IsRouteChannel g dest n (opposite p)
 stands_by g r dest n L stands heads = absurd stands
 stands_by g r dest n E stands heads = omega arith
 stands_by g r dest n W stands heads = omega arith
 stands_by g r dest n N stands heads = omega arith
 stands_by g r dest n S stands heads = omega arith
 
-pub hop_stands : (g : Grid) (r dest n : ℕ) → HasTiles g → neighbour g r (route g r dest) ≡ Some n → MayStand g dest n (opposite (route g r dest))
+pub hop_stands : (g : Grid) (r dest n : ℕ) → HasTiles g → neighbour g r (route g r dest) ≡ Some n → IsRouteChannel g dest n (opposite (route g r dest))
 hop_stands g r dest n some next = stands_by g r dest n (route g r dest) (beside g r (route g r dest) n some next) (heads g r dest (route g r dest) refl)
 
-falls_by : (g : Grid) (r dest n : ℕ) (p q : Port) → Beside g r p n → Heads g r dest p → MayStand g dest r q → x_of g r < g.cols → y_of g r < g.rows → rank g n (opposite p) < rank g r q
+falls_by : (g : Grid) (r dest n : ℕ) (p q : Port) → Beside g r p n → Heads g r dest p → IsRouteChannel g dest r q → x_of g r < g.cols → y_of g r < g.rows → rank g n (opposite p) < rank g r q
 falls_by g r dest n L q stands heads may x_in y_in = absurd stands
 falls_by g r dest n E L stands heads may x_in y_in = omega arith
 falls_by g r dest n E E stands heads may x_in y_in = absurd (omega arith)
@@ -90,12 +90,12 @@ falls_by g r dest n S W stands heads may x_in y_in = omega arith
 falls_by g r dest n S N stands heads may x_in y_in = omega arith
 falls_by g r dest n S S stands heads may x_in y_in = absurd (omega arith)
 
-pub rank-hop : (g : Grid) (dest r n : ℕ) (q : Port) → HasTiles g → MayStand g dest r q → neighbour g r (route g r dest) ≡ Some n → rank g n (opposite (route g r dest)) < rank g r q
+pub rank-hop : (g : Grid) (dest r n : ℕ) (q : Port) → HasTiles g → IsRouteChannel g dest r q → neighbour g r (route g r dest) ≡ Some n → rank g n (opposite (route g r dest)) < rank g r q
 rank-hop g dest r n q some may next =
     let way = route g r dest in
     falls_by g r dest n way q (beside g r way n some next) (heads g r dest way refl) may (x_below g r some) (y_below g r some (has_neighbour_inside g r way n next))
 
 -- ---- a message that came by its route
-pub travels_stands : (g : Grid) (dest r : ℕ) (q : Port) → HasTiles g → Travels g dest r q → MayStand g dest r q
+pub travels_stands : (g : Grid) (dest r : ℕ) (q : Port) → HasTiles g → Travels g dest r q → IsRouteChannel g dest r q
 travels_stands g dest r q some (enters inside) = tt
 travels_stands g dest r q some (hops {r = before} {q = came} travels next) = hop_stands g before dest r some next

@@ -7,7 +7,7 @@ use Rattle.mesh_gen.specs.declared.port.Port.TheVariants.{L, E, W, N, S}
 use Rattle.mesh_gen.specs.Grid.{Grid, tiles, x_of, y_of, neighbour, distance}
 use Rattle.mesh_gen.specs.Ports.{opposite}
 use Rattle.mesh_gen.specs.Routes.{HasTiles}
-use Rattle.mesh_gen.specs.Tree.{goes_on, leaves_by, parent_side, tree_parent, ancestor, Edge, IsEnteredOnce}
+use Rattle.mesh_gen.specs.Tree.{goes_on, leaves_by, parent_port, tree_parent, ancestor, Edge, IsEnteredOnce}
 use Rattle.mesh_gen.proofs.Coordinates.{x_below, y_below, same_tile}
 use Rattle.mesh_gen.proofs.Beside.{Beside, beside, neighbour_inside, neighbour_back, east_of, west_of, north_of, south_of, opposite-opposite}
 
@@ -30,15 +30,15 @@ edge_of g s r out n goes next = record { leaves = leaves out goes next; next = n
     leaves S goes next = rw (goes, next)
 
 -- ---- an edge comes from the parent
-pub parent_side_of : (g : Grid) (s r : ℕ) (out : Port) (n : ℕ) → goes_on g s r out ≡ true → Beside g r out n → parent_side g s n ≡ opposite out
-parent_side_of g s r L n goes stands = absurd stands
-parent_side_of g s r E n goes stands = grind (arith, nat_tests)
-parent_side_of g s r W n goes stands = grind (arith, nat_tests)
-parent_side_of g s r N n goes stands = grind (arith, nat_tests)
-parent_side_of g s r S n goes stands = grind (arith, nat_tests)
+pub parent_port_of : (g : Grid) (s r : ℕ) (out : Port) (n : ℕ) → goes_on g s r out ≡ true → Beside g r out n → parent_port g s n ≡ opposite out
+parent_port_of g s r L n goes stands = absurd stands
+parent_port_of g s r E n goes stands = grind (arith, nat_tests)
+parent_port_of g s r W n goes stands = grind (arith, nat_tests)
+parent_port_of g s r N n goes stands = grind (arith, nat_tests)
+parent_port_of g s r S n goes stands = grind (arith, nat_tests)
 
-edge_side : (g : Grid) (s r : ℕ) (out : Port) (n : ℕ) → HasTiles g → Edge g s r out n → parent_side g s n ≡ opposite out
-edge_side g s r out n some edge = parent_side_of g s r out n (edge_goes_on g s r out n edge) (beside g r out n some edge.next)
+edge_side : (g : Grid) (s r : ℕ) (out : Port) (n : ℕ) → HasTiles g → Edge g s r out n → parent_port g s n ≡ opposite out
+edge_side g s r out n some edge = parent_port_of g s r out n (edge_goes_on g s r out n edge) (beside g r out n some edge.next)
 
 pub parent_of : (g : Grid) (s r : ℕ) (out : Port) (n : ℕ) → HasTiles g → Edge g s r out n → tree_parent g s n ≡ Some r
 parent_of g s r out n some edge = rw (edge_side g s r out n some edge) (neighbour_back g r out n some edge.next)
@@ -71,7 +71,7 @@ ParentHeads g s n W = (y_of g n ≡ y_of g s) × (x_of g s < x_of g n)
 ParentHeads g s n N = y_of g s < y_of g n
 ParentHeads g s n S = y_of g n < y_of g s
 
-parent_heads : (g : Grid) (s n : ℕ) (side : Port) → parent_side g s n ≡ side → ParentHeads g s n side
+parent_heads : (g : Grid) (s n : ℕ) (side : Port) → parent_port g s n ≡ side → ParentHeads g s n side
 parent_heads g s n L is = grind (arith, nat_tests)
 parent_heads g s n E is = grind (arith, nat_tests)
 parent_heads g s n W is = grind (arith, nat_tests)
@@ -102,7 +102,7 @@ parent_nearer g s n S u heads stands = omega arith
 
 pub entered : (g : Grid) (s n : ℕ) → HasTiles g → s < tiles g → n < tiles g → n ≢ s → IsEnteredOnce g s n
 entered g s n some source inside other =
-    let side = parent_side g s n in
+    let side = parent_port g s n in
     let heads = parent_heads g s n side refl in
     let from = parent_stands g s n side some source inside other heads in
     let stands = beside g n side from.0 some from.1 in

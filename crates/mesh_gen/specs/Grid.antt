@@ -33,7 +33,7 @@ diameter g = (g.cols - 1) + (g.rows - 1)
 abbrev pub when : Bool → ℕ → Option ℕ
 when there t = if there then Some t else None
 
--- the tile on a side of a tile: none behind an edge, on the tile's own side, or beside what is no tile
+-- the tile on a side of a tile: none beyond an edge, on the tile's own side, or beside what is no tile
 abbrev pub neighbour : Grid → ℕ → Port → Option ℕ
 neighbour g t L = None
 neighbour g t E = when (nat_lt t (tiles g) && nat_lt (x_of g t + 1) g.cols) (t + 1)

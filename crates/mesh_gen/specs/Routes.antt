@@ -36,9 +36,9 @@ pub data Travels (g : Grid) (dest : ℕ) : ℕ → Port → Type 0 where
   hops : {r n : ℕ} {q : Port} → Travels g dest r q → neighbour g r (route g r dest) ≡ Some n → Travels g dest n (opposite (route g r dest))
 
 -- where a message for this tile may stand: at a port that it enters on its way
-abbrev pub MayStand : Grid → ℕ → ℕ → Port → Type 0
-MayStand g dest r L = Unit {0}
-MayStand g dest r W = x_of g r ≤ x_of g dest
-MayStand g dest r E = x_of g dest ≤ x_of g r
-MayStand g dest r N = (x_of g r ≡ x_of g dest) × (y_of g r ≤ y_of g dest)
-MayStand g dest r S = (x_of g r ≡ x_of g dest) × (y_of g dest ≤ y_of g r)
+abbrev pub IsRouteChannel : Grid → ℕ → ℕ → Port → Type 0
+IsRouteChannel g dest r L = Unit {0}
+IsRouteChannel g dest r W = x_of g r ≤ x_of g dest
+IsRouteChannel g dest r E = x_of g dest ≤ x_of g r
+IsRouteChannel g dest r N = (x_of g r ≡ x_of g dest) × (y_of g r ≤ y_of g dest)
+IsRouteChannel g dest r S = (x_of g r ≡ x_of g dest) × (y_of g dest ≤ y_of g r)

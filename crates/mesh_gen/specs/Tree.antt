@@ -27,12 +27,12 @@ unfoldable pub tree_outs : Grid → ℕ → ℕ → ℕ
 tree_outs g s r = ports_where (leaves_by g s r)
 
 -- the side of r towards the row of s, and in that row towards s
-abbrev pub parent_side : Grid → ℕ → ℕ → Port
-parent_side g s r = along_column g r s (along_row g r s L)
+abbrev pub parent_port : Grid → ℕ → ℕ → Port
+parent_port g s r = along_column g r s (along_row g r s L)
 
 -- the router from which the tree of s comes to r: the neighbour on that side, and none at s
 abbrev pub tree_parent : Grid → ℕ → ℕ → Option ℕ
-tree_parent g s r = neighbour g r (parent_side g s r)
+tree_parent g s r = neighbour g r (parent_port g s r)
 
 -- the router so many parents up from v
 abbrev pub ancestor : Grid → ℕ → ℕ → ℕ → Option ℕ
@@ -68,5 +68,5 @@ covers g s r v N = nat_le (y_of g r) (y_of g s) && ((x_of g v == x_of g r) && na
 covers g s r v S = nat_le (y_of g s) (y_of g r) && ((x_of g v == x_of g r) && nat_lt (y_of g r) (y_of g v))
 
 -- by how many ports a copy at r serves the tile v
-abbrev pub ways_to : Grid → ℕ → ℕ → ℕ → ℕ
-ways_to g s r v = count_ports (covers g s r v)
+abbrev pub outputs_to : Grid → ℕ → ℕ → ℕ → ℕ
+outputs_to g s r v = count_ports (covers g s r v)

@@ -127,7 +127,7 @@ impl Mesh {
         self.x(a).abs_diff(self.x(b)) + self.y(a).abs_diff(self.y(b))
     }
 
-    /// The tile on a side of a tile. None stands behind an edge, on the tile's own side, and beside what is no tile.
+    /// The tile on a side of a tile. None stands beyond an edge, on the tile's own side, and beside what is no tile.
     pub fn neighbour(&self, r: u8, out: Port) -> Option<u8>
         ensures { result ≡ neighbour (grid self.now) r out }
     {

@@ -1,7 +1,7 @@
 //! Why a call was refused, where there is one reason only.
 use std::alloc::{AllocError, AllocFailed};
 
-/// Memory was wanting.
+/// out of memory.
 #[derive(Clone, Copy, Debug, PartialEq, Eq)]
 pub struct NoMemory;
 

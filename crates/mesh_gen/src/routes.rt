@@ -1,7 +1,7 @@
 ghost use Rattle.std.specs.Prelude.{◌≡◌, ◌≢◌, ◌↔◌, ◌<◌, ◌+◌, ℕ, Some};
 ghost use Rattle.mesh_gen.specs.Grid.{Grid, tiles, distance, neighbour};
 ghost use Rattle.mesh_gen.specs.Ports.{opposite};
-ghost use Rattle.mesh_gen.specs.Routes.{HasTiles, along_row, along_column, route, rank, Travels, MayStand};
+ghost use Rattle.mesh_gen.specs.Routes.{HasTiles, along_row, along_column, route, rank, Travels, IsRouteChannel};
 
 use crate::{Mesh, Port};
 
@@ -78,9 +78,9 @@ pub fn route_laws()
         → (n : ℕ) × (neighbour g r (route g r dest) ≡ Some n) × (n < tiles g) }
 
     // Where it may stand by its column and row: where it enters, and after each hop. There the ranks fall.
-    ensures may_stand { (g : Grid) (dest r : ℕ) (q : Port) → HasTiles g → Travels g dest r q → MayStand g dest r q }
+    ensures is_route_channel { (g : Grid) (dest r : ℕ) (q : Port) → HasTiles g → Travels g dest r q → IsRouteChannel g dest r q }
     ensures stands_on { (g : Grid) (dest r n : ℕ) → HasTiles g
-        → neighbour g r (route g r dest) ≡ Some n → MayStand g dest n (opposite (route g r dest)) }
-    ensures ranks_there { (g : Grid) (dest r n : ℕ) (q : Port) → HasTiles g → MayStand g dest r q
+        → neighbour g r (route g r dest) ≡ Some n → IsRouteChannel g dest n (opposite (route g r dest)) }
+    ensures ranks_there { (g : Grid) (dest r n : ℕ) (q : Port) → HasTiles g → IsRouteChannel g dest r q
         → neighbour g r (route g r dest) ≡ Some n → rank g n (opposite (route g r dest)) < rank g r q }
 {}

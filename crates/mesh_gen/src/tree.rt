@@ -3,7 +3,7 @@ ghost use Rattle.mesh_gen.specs.Grid.{Grid, tiles, distance};
 ghost use Rattle.mesh_gen.specs.Ports.{has, mask, count_if};
 ghost use Rattle.mesh_gen.specs.PortSets.{bits_of};
 ghost use Rattle.mesh_gen.specs.Routes.{HasTiles};
-ghost use Rattle.mesh_gen.specs.Tree.{goes_on, leaves_by, tree_outs, tree_parent, ancestor, Edge, IsEnteredOnce, Leads, covers, ways_to};
+ghost use Rattle.mesh_gen.specs.Tree.{goes_on, leaves_by, tree_outs, tree_parent, ancestor, Edge, IsEnteredOnce, Leads, covers, outputs_to};
 
 use crate::{Mesh, Port, Ports};
 use bitflags::Flags;
@@ -87,10 +87,10 @@ pub fn tree_laws()
     ensures covers { (g : Grid) (s r v : ℕ) (p : Port) → HasTiles g → r < tiles g → v < tiles g
         → (covers g s r v p ≡ true) ↔ Leads g s r p v }
 
-    // At the source it leads to each tile by one port, and what an edge serves is served by one port behind it.
-    ensures whole { (g : Grid) (s v : ℕ) → ways_to g s s v ≡ 1 }
+    // At the source it leads to each tile by one port, and what an edge serves is served by one port beyond it.
+    ensures whole { (g : Grid) (s v : ℕ) → outputs_to g s s v ≡ 1 }
     ensures carried { (g : Grid) (s r n v : ℕ) (p : Port) → HasTiles g → Edge g s r p n
-        → ways_to g s n v ≡ count_if (covers g s r v p) }
+        → outputs_to g s n v ≡ count_if (covers g s r v p) }
 
     // A port that serves a tile is one of the tree, and two ports of a router serve no tile together.
     ensures leaves { (g : Grid) (s r v : ℕ) (p : Port) → HasTiles g → r < tiles g → v < tiles g

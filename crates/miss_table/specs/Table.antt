@@ -15,7 +15,7 @@ Holds P None = ⊥
 Holds P (Some x) = P x
 
 -- a demand that was sent and is not ordered
-pub record IsOnItsWay (demand : Demand) : Type 0 where
+pub record IsInFlight (demand : Demand) : Type 0 where
   pub sent : IsTrue demand.sent
   pub unordered : IsNone demand.ordered
 
@@ -30,7 +30,7 @@ pub record IsOrderedRead (demand : Demand) : Type 0 where
   pub ordered : IsSome demand.ordered
   pub read : demand.kind ≡ GetS
 
--- an ordered demand of a write, behind which one more tile may wait
+-- an ordered demand of a write, for which one more tile may wait
 pub record TakesOneMore (demand : Demand) (room : ℕ) : Type 0 where
   pub ordered : IsSome demand.ordered
   pub write : demand.kind ≡ GetM
@@ -49,7 +49,7 @@ IsSentDemand demand = IsTrue demand.sent
 abbrev pub IsSentBack : WriteBack → Type 0
 IsSentBack back = IsTrue back.sent
 
--- a demand that is ordered at a place; with early words; whose words serve once; and with one more tile behind it
+-- a demand that is ordered at a place; with early words; whose words serve once; and with one more tile after it
 abbrev pub ordered_at : ℕ → Demand → Demand
 ordered_at place demand = record demand { ordered = Some place }
 
@@ -65,7 +65,7 @@ for_once demand = record demand { once = true }
 abbrev pub followed_by : Waiting → Demand → Demand
 followed_by waiting demand = record demand { list = demand.list ++ waiting ∷ [] }
 
--- the tiles that wait behind a demand
+-- the tiles that wait for a demand
 abbrev pub list_of : Option Demand → List Waiting
 list_of None = []
 list_of (Some demand) = demand.list

@@ -1,7 +1,7 @@
 ghost use Rattle.std.specs.Prelude.{◌≡◌, ◌≢◌, IsSome, IsNone, false, option_map};
 ghost use Rattle.chip_model.specs.Misses.{no_misses, is_demanded, is_written_back, new_demand, new_back, wanted_by_demand, wanted, marked_sent};
 ghost use Rattle.chip_model.specs.Snoop.{stale_back};
-ghost use Rattle.miss_table.specs.Table.{AreApart, Holds, IsOnItsWay, LacksWords, IsOrderedRead, TakesOneMore, IsLive, IsSentDemand, IsSentBack, ordered_at, with_early, for_once, followed_by, list_of};
+ghost use Rattle.miss_table.specs.Table.{AreApart, Holds, IsInFlight, LacksWords, IsOrderedRead, TakesOneMore, IsLive, IsSentDemand, IsSentBack, ordered_at, with_early, for_once, followed_by, list_of};
 ghost use Rattle.miss_table.specs.Looks.{look_of};
 
 use crate::Look;
@@ -101,7 +101,7 @@ impl MissTable {
 
     /// The demand's request is delivered here, at the place `g` of the order, and its words are not here.
     pub fn order_at(&mut self, g: u64)
-        requires { Holds IsOnItsWay self.old.demand }
+        requires { Holds IsInFlight self.old.demand }
         ensures { self.new ≡ record self.old { demand = option_map (ordered_at g) self.old.demand } }
     {
         if let Some(demand) = &mut self.demand {
@@ -119,7 +119,7 @@ impl MissTable {
         }
     }
 
-    /// The words of the demand will serve its load, and are not kept: another tile is to write behind it.
+    /// The words of the demand will serve its load, and are not kept: another tile is to write after it.
     pub fn set_once(&mut self)
         requires { Holds IsOrderedRead self.old.demand }
         ensures { self.new ≡ record self.old { demand = option_map for_once self.old.demand } }
@@ -129,7 +129,7 @@ impl MissTable {
         }
     }
 
-    /// A tile waits behind the demand for its words.
+    /// A tile waits for the demand for its words.
     pub fn append(&mut self, tile: u8, kind: Kind)
         requires { Holds (λ demand. TakesOneMore demand LIST_PLACES) self.old.demand }
         ensures { self.new ≡ record self.old { demand = option_map (followed_by (record { tile = tile; kind = kind })) self.old.demand } }

@@ -15,11 +15,11 @@ use Rattle.order_tracker.specs.Order.{order}
 use Rattle.chip_model.specs.declared.net_copy.NetCopy.{NetCopy}
 use Rattle.chip_model.specs.Partial.{when, ◌>>=◌}
 use Rattle.chip_model.specs.Chip.{Chip, tile_count}
-use Rattle.chip_model.specs.Windows.{Windows, posted, taken_by}
-use Rattle.chip_model.specs.Copies.{Name, entered, hopped}
-use Rattle.chip_model.specs.OrderedNetwork.{OrderedNetwork, Interface, sources, with_interface, next_request, injected, request_posted, vector_taken, copy_hopped, expected_behind}
+use Rattle.chip_model.specs.Windows.{Windows, after_post, after_take}
+use Rattle.chip_model.specs.Copies.{Name, after_entry, after_hop}
+use Rattle.chip_model.specs.OrderedNetwork.{OrderedNetwork, Interface, sources, with_interface, next_request, after_inject, after_request_post, after_vector_take, after_copy_hop, expected_at_next_hop}
 use Rattle.chip_model.specs.Bookkeeping.{AreMadeBy, count_by_tile}
-use Rattle.chip_model.specs.CopiesOwed.{IsOnTheWay, NoneComes, ComesAlone}
+use Rattle.chip_model.specs.CopiesOwed.{HasCopies, NoneComes, ComesAlone}
 use Rattle.chip_model.specs.NetworkFits.{requests_of}
 use Rattle.net_iface.specs.OneOrder.{IsOneOrder}
 use Rattle.net_iface.proofs.Binds.{bind, bind_eq, made}
@@ -47,7 +47,7 @@ pub record Accords (chip : Chip) (net : OrderedNetwork) : Type 0 where
   pub tiles : length net.interfaces ≡ tile_count chip
   pub agree : (t : ℕ) (interface : Interface) → slice_get net.interfaces t ≡ Some interface → Agrees net.ordered net.windows.posts t interface
   pub in_order : sources net.ordered ≡ order (tile_count chip) net.windows.closed
-  pub made : (q : Request) → IsOnTheWay net.copies q → IsMade net.interfaces q
+  pub made : (q : Request) → HasCopies net.copies q → IsMade net.interfaces q
 
 -- no tile has delivered, and the order has only grown
 pub record DeliversNone (old new : OrderedNetwork) : Type 0 where
@@ -104,14 +104,14 @@ made_kept xs t was now more q there grows made = elim (cases_eq q.source t) [
 -- ---- a request is made
 
 abbrev pub EntersAlone : Type 0
-EntersAlone = (g : Grid) (old new : Network NetCopy) (q : Request) → entered g old q ≡ Some new → ComesAlone q old new
+EntersAlone = (g : Grid) (old new : Network NetCopy) (q : Request) → after_entry g old q ≡ Some new → ComesAlone q old new
 
 abbrev pub HopsWithNone : Type 0
-HopsWithNone = (g : Grid) (old new : Network NetCopy) (r : ℕ) (port : Port) (slot : ℕ) (out : Port) (expected : Option Name) → hopped g old r port slot out expected ≡ Some new → NoneComes old new
+HopsWithNone = (g : Grid) (old new : Network NetCopy) (r : ℕ) (port : Port) (slot : ℕ) (out : Port) (expected : Option Name) → after_hop g old r port slot out expected ≡ Some new → NoneComes old new
 
 -- a vector that is taken leaves the posts and the closed windows
-taken_same : (w next : Windows) (t : ℕ) → taken_by w t ≡ Some next → (next.posts ≡ w.posts) × (next.closed ≡ w.closed)
-unfolding taken_by
+taken_same : (w next : Windows) (t : ℕ) → after_take w t ≡ Some next → (next.posts ≡ w.posts) × (next.closed ≡ w.closed)
+unfolding after_take
 taken_same w next t =
     bind (λ (v : Windows). (v.posts ≡ w.posts) × (v.closed ≡ w.closed)) (slice_get w.taken t) _
     (λ count last done. bind (λ (v : Windows). (v.posts ≡ w.posts) × (v.closed ≡ w.closed)) (slice_get w.closed count) _
@@ -124,21 +124,21 @@ module _ (chip : Chip) (net : OrderedNetwork) (accords : Accords chip net) where
   one_more_made t kind line interface there =
       let q = next_request t interface kind line in
       let agrees = accords.agree t interface there in
-      let posted = agrees.posted in
+      let after_post = agrees.posted in
       let most = agrees.posted_made in
       record {
         within = agrees.within;
         made = AreMadeBy-push t interface.made q refl refl agrees.made;
         in_place = agrees.in_place ∙ sym (take-append-le (count_by_tile t net.ordered) interface.made (q ∷ []) (omega arith));
         posted_made = omega (arith, most, length-append interface.made (q ∷ []));
-        posted = posted;
+        posted = after_post;
       }
 
-  pub keeps-inject : EntersAlone → (t : ℕ) (kind : Kind) (line : ℕ) (new : OrderedNetwork) → injected chip net t kind line ≡ Some new → Keeps chip net new
-  unfolding injected
+  pub keeps-inject : EntersAlone → (t : ℕ) (kind : Kind) (line : ℕ) (new : OrderedNetwork) → after_inject chip net t kind line ≡ Some new → Keeps chip net new
+  unfolding after_inject
   keeps-inject enters t kind line new is =
       bind_eq (Keeps chip net) (slice_get net.interfaces t) _
-      (λ interface there last done. bind_eq (Keeps chip net) (entered chip.grid net.copies (next_request t interface kind line)) _
+      (λ interface there last done. bind_eq (Keeps chip net) (after_entry chip.grid net.copies (next_request t interface kind line)) _
       (λ copies enter y is. made (Keeps chip net) _ y (kept interface there copies (enters chip.grid net.copies copies (next_request t interface kind line) enter)) is) last done)
       new is
     where
@@ -166,12 +166,12 @@ module _ (chip : Chip) (net : OrderedNetwork) (accords : Accords chip net) where
 
   -- ---- a tile posts
 
-  pub keeps-post : (t : ℕ) (new : OrderedNetwork) → request_posted net t ≡ Some new → Keeps chip net new
-  unfolding request_posted
+  pub keeps-post : (t : ℕ) (new : OrderedNetwork) → after_request_post net t ≡ Some new → Keeps chip net new
+  unfolding after_request_post
   keeps-post t new is =
       bind_eq (Keeps chip net) (slice_get net.interfaces t) _ (λ interface there last done. by interface there (nat_lt interface.posted (length interface.made)) refl last done) new is
     where
-      kept : (interface : Interface) → slice_get net.interfaces t ≡ Some interface → interface.posted < length interface.made → (windows : Windows) → posted net.windows t ≡ Some windows
+      kept : (interface : Interface) → slice_get net.interfaces t ≡ Some interface → interface.posted < length interface.made → (windows : Windows) → after_post net.windows t ≡ Some windows
           → Keeps chip net (with_interface (record net { windows = windows }) t (record interface { posted = interface.posted + 1 }))
       kept interface there more windows posts =
           let post = post_is net.windows t windows posts in
@@ -212,10 +212,10 @@ module _ (chip : Chip) (net : OrderedNetwork) (accords : Accords chip net) where
           }
 
       by : (interface : Interface) → slice_get net.interfaces t ≡ Some interface → (more : Bool) → nat_lt interface.posted (length interface.made) ≡ more → (last : OrderedNetwork)
-          → when more (posted net.windows t >>= (λ windows. Some (with_interface (record net { windows = windows }) t (record interface { posted = interface.posted + 1 })))) ≡ Some last → Keeps chip net last
+          → when more (after_post net.windows t >>= (λ windows. Some (with_interface (record net { windows = windows }) t (record interface { posted = interface.posted + 1 })))) ≡ Some last → Keeps chip net last
       by interface there false fewer last done = cc
       by interface there true more last done =
-          bind_eq (Keeps chip net) (posted net.windows t) _ (λ windows posts y is. made (Keeps chip net) _ y (kept interface there (ltb-true interface.posted (length interface.made) more) windows posts) is) last done
+          bind_eq (Keeps chip net) (after_post net.windows t) _ (λ windows posts y is. made (Keeps chip net) _ y (kept interface there (ltb-true interface.posted (length interface.made) more) windows posts) is) last done
 
   -- ---- a vector is taken, and a copy hops
 
@@ -232,14 +232,14 @@ module _ (chip : Chip) (net : OrderedNetwork) (accords : Accords chip net) where
     none = record { more = []; grows = sym (append-nil net.ordered); same = λ t interface there. (interface, there, refl) };
   }
 
-  pub keeps-take : (t : ℕ) (new : OrderedNetwork) → vector_taken net t ≡ Some new → Keeps chip net new
-  unfolding vector_taken
+  pub keeps-take : (t : ℕ) (new : OrderedNetwork) → after_vector_take net t ≡ Some new → Keeps chip net new
+  unfolding after_vector_take
   keeps-take t new is =
-      bind_eq (Keeps chip net) (taken_by net.windows t) _
+      bind_eq (Keeps chip net) (after_take net.windows t) _
       (λ windows takes y is. made (Keeps chip net) _ y (let same = taken_same net.windows windows t takes in carried net.copies windows (λ q on. on) same.0 same.1) is) new is
 
-  pub keeps-hop : HopsWithNone → (r : ℕ) (port : Port) (slot : ℕ) (out : Port) (new : OrderedNetwork) → copy_hopped chip net r port slot out ≡ Some new → Keeps chip net new
-  unfolding copy_hopped
+  pub keeps-hop : HopsWithNone → (r : ℕ) (port : Port) (slot : ℕ) (out : Port) (new : OrderedNetwork) → after_copy_hop chip net r port slot out ≡ Some new → Keeps chip net new
+  unfolding after_copy_hop
   keeps-hop hops r port slot out new is =
-      bind_eq (Keeps chip net) (hopped chip.grid net.copies r port slot out (expected_behind chip net r out)) _
-      (λ copies hop y is. made (Keeps chip net) _ y (carried copies net.windows (hops chip.grid net.copies copies r port slot out (expected_behind chip net r out) hop) refl refl) is) new is
+      bind_eq (Keeps chip net) (after_hop chip.grid net.copies r port slot out (expected_at_next_hop chip net r out)) _
+      (λ copies hop y is. made (Keeps chip net) _ y (carried copies net.windows (hops chip.grid net.copies copies r port slot out (expected_at_next_hop chip net r out) hop) refl refl) is) new is

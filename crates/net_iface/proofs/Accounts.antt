@@ -18,22 +18,22 @@ use Rattle.chip_model.specs.Chip.{Chip, tile_count}
 use Rattle.chip_model.specs.Windows.{Windows}
 use Rattle.chip_model.specs.Copies.{Name, name_of, is_named, expects}
 use Rattle.chip_model.specs.Bookkeeping.{AreMadeBy}
-use Rattle.chip_model.specs.CopiesOwed.{times_named, OwesMore, OwesSame, OwesLess, HasCopyAt, IsOnTheWay, NoneComes, ComesAlone, ReservesExpected, ReservesNothing}
+use Rattle.chip_model.specs.CopiesOwed.{times_named, OwesMore, OwesSame, OwesLess, HasCopyAt, HasCopies, NoneComes, ComesAlone, ReservesExpected, ReservesNothing}
 use Rattle.chip_model.specs.NetworkFits.{requests_of}
-use Rattle.net_iface.specs.Unordered.{list_of, unordered_of, with_last}
-use Rattle.net_iface.specs.Parts.{made_by, IsOrderedUpTo, IsOfMade, IsAccounted}
+use Rattle.net_iface.specs.Unordered.{unordered_at, unordered_of, with_last}
+use Rattle.net_iface.specs.Parts.{requests_of_tile, IsOrderedUpTo, IsOfMade, IsAccounted}
 use Rattle.net_iface.proofs.Named.{slice_get_grown, slice_get-append_right, AreMadeBy-push, times_named-push, is_named_same}
 
 -- a copy stands where it stands
 stands_there : (net : Network NetCopy) (router port slot : ℕ) (copy : NetCopy) → at net router port slot ≡ Some copy → HasCopyAt net router port slot copy.request
 stands_there net router port slot copy stands = record { copy = copy; stands = stands; is = refl }
 
-on_the_way : (net : Network NetCopy) (router port slot : ℕ) (copy : NetCopy) → at net router port slot ≡ Some copy → IsOnTheWay net copy.request
-on_the_way net router port slot copy stands = record { router = router; port = port; slot = slot; there = stands_there net router port slot copy stands }
+has_copies : (net : Network NetCopy) (router port slot : ℕ) (copy : NetCopy) → at net router port slot ≡ Some copy → HasCopies net copy.request
+has_copies net router port slot copy stands = record { router = router; port = port; slot = slot; there = stands_there net router port slot copy stands }
 
 -- what is on the way was made
 pub made_if_on_the_way : (chip : Chip) (copies : Network NetCopy) (w : Windows) (ordered : List Request) (unordered : List (Buffer Request)) (delivered : List ℕ) (q : Request)
-    → IsAccounted chip copies w ordered unordered delivered → IsOnTheWay copies q → IsOfMade (tile_count chip) ordered unordered q
+    → IsAccounted chip copies w ordered unordered delivered → HasCopies copies q → IsOfMade (tile_count chip) ordered unordered q
 made_if_on_the_way chip copies w ordered unordered delivered q accounted way =
     subst (λ (r : Request). IsOfMade (tile_count chip) ordered unordered r) way.there.is (accounted.of_made way.router way.port way.slot way.there.copy way.there.stands)
 
@@ -75,50 +75,50 @@ IsAccounted-post chip copies w ordered unordered delivered t some accounted = re
 -- ---- a request is made
 
 module _ (chip : Chip) (copies new : Network NetCopy) (w : Windows) (ordered : List Request) (unordered more : List (Buffer Request)) (delivered : List ℕ) (q : Request)
-    (there : list_of more q.source ≡ with_last (list_of unordered q.source) q) (others : (u : ℕ) → u ≢ q.source → list_of more u ≡ list_of unordered u) where
-  pub made_by-own : made_by ordered more q.source ≡ made_by ordered unordered q.source ++ q ∷ []
-  made_by-own =
+    (there : unordered_at more q.source ≡ with_last (unordered_at unordered q.source) q) (others : (u : ℕ) → u ≢ q.source → unordered_at more u ≡ unordered_at unordered u) where
+  pub requests_of_tile-own : requests_of_tile ordered more q.source ≡ requests_of_tile ordered unordered q.source ++ q ∷ []
+  requests_of_tile-own =
       ap (λ (list : Buffer Request). requests_of q.source ordered ++ list.items) there
       ∙ sym (append_assoc (requests_of q.source ordered) (unordered_of unordered q.source) (q ∷ []))
 
-  pub made_by-others : (u : ℕ) → u ≢ q.source → made_by ordered more u ≡ made_by ordered unordered u
-  made_by-others u other = ap (λ (list : Buffer Request). requests_of u ordered ++ list.items) (others u other)
+  pub requests_of_tile-others : (u : ℕ) → u ≢ q.source → requests_of_tile ordered more u ≡ requests_of_tile ordered unordered u
+  requests_of_tile-others u other = ap (λ (list : Buffer Request). requests_of u ordered ++ list.items) (others u other)
 
   still_made : (r : Request) → IsOfMade (tile_count chip) ordered unordered r → IsOfMade (tile_count chip) ordered more r
   still_made r of = elim (cases_eq r.source q.source) [
     | inl same ↦ record {
       source = of.source;
       made =
-          ap (λ (u : ℕ). slice_get (made_by ordered more u) r.number) same
-          ∙ ap (λ (rs : List Request). slice_get rs r.number) made_by-own
-          ∙ slice_get_grown (made_by ordered unordered q.source) (q ∷ []) r.number r (ap (λ (u : ℕ). slice_get (made_by ordered unordered u) r.number) (sym same) ∙ of.made);
+          ap (λ (u : ℕ). slice_get (requests_of_tile ordered more u) r.number) same
+          ∙ ap (λ (rs : List Request). slice_get rs r.number) requests_of_tile-own
+          ∙ slice_get_grown (requests_of_tile ordered unordered q.source) (q ∷ []) r.number r (ap (λ (u : ℕ). slice_get (requests_of_tile ordered unordered u) r.number) (sym same) ∙ of.made);
     }
-    | inr other ↦ record { source = of.source; made = ap (λ (rs : List Request). slice_get rs r.number) (made_by-others r.source other) ∙ of.made }
+    | inr other ↦ record { source = of.source; made = ap (λ (rs : List Request). slice_get rs r.number) (requests_of_tile-others r.source other) ∙ of.made }
   ]
 
-  just_made : q.source < tile_count chip → q.number ≡ length (made_by ordered unordered q.source) → IsOfMade (tile_count chip) ordered more q
+  just_made : q.source < tile_count chip → q.number ≡ length (requests_of_tile ordered unordered q.source) → IsOfMade (tile_count chip) ordered more q
   just_made inside number = record {
     source = inside;
     made =
-        ap (λ (rs : List Request). slice_get rs q.number) made_by-own
-        ∙ slice_get-append_right (made_by ordered unordered q.source) (q ∷ []) q.number 0 (omega (arith, number));
+        ap (λ (rs : List Request). slice_get rs q.number) requests_of_tile-own
+        ∙ slice_get-append_right (requests_of_tile ordered unordered q.source) (q ∷ []) q.number 0 (omega (arith, number));
   }
 
-  pub IsAccounted-inject : q.source < tile_count chip → q.number ≡ length (made_by ordered unordered q.source) → OwesMore chip.grid q copies new → ComesAlone q copies new → ReservesNothing chip.vcs copies new
+  pub IsAccounted-inject : q.source < tile_count chip → q.number ≡ length (requests_of_tile ordered unordered q.source) → OwesMore chip.grid q copies new → ComesAlone q copies new → ReservesNothing chip.vcs copies new
       → IsAccounted chip copies w ordered unordered delivered → IsAccounted chip new w ordered more delivered
   IsAccounted-inject inside number owes comes reserves accounted = record {
     made = λ t within. elim (cases_eq t q.source) [
       | inl same ↦
-          subst (λ (u : ℕ). AreMadeBy u (made_by ordered more u)) (sym same)
-          (subst (λ (rs : List Request). AreMadeBy q.source rs) (sym made_by-own) (AreMadeBy-push q.source (made_by ordered unordered q.source) q refl number (accounted.made q.source inside)))
-      | inr other ↦ subst (λ (rs : List Request). AreMadeBy t rs) (sym (made_by-others t other)) (accounted.made t within)
+          subst (λ (u : ℕ). AreMadeBy u (requests_of_tile ordered more u)) (sym same)
+          (subst (λ (rs : List Request). AreMadeBy q.source rs) (sym requests_of_tile-own) (AreMadeBy-push q.source (requests_of_tile ordered unordered q.source) q refl number (accounted.made q.source inside)))
+      | inr other ↦ subst (λ (rs : List Request). AreMadeBy t rs) (sym (requests_of_tile-others t other)) (accounted.made t within)
     ];
     posted = λ t within has. elim (cases_eq t q.source) [
       | inl same ↦ subst (λ (u : ℕ). 0 < length (unordered_of more u)) (sym same) (omega (arith, ap (λ (list : Buffer Request). length list.items) there, length-append (unordered_of unordered q.source) (q ∷ [])))
       | inr other ↦ subst (λ (list : Buffer Request). 0 < length list.items) (sym (others t other)) (accounted.posted t within has)
     ];
     in_order = accounted.in_order;
-    of_made = λ router port slot copy stands. elim (comes copy.request (on_the_way new router port slot copy stands)) [
+    of_made = λ router port slot copy stands. elim (comes copy.request (has_copies new router port slot copy stands)) [
       | inl before ↦ still_made copy.request (made_if_on_the_way chip copies w ordered unordered delivered copy.request accounted before)
       | inr just ↦ subst (λ (r : Request). IsOfMade (tile_count chip) ordered more r) (sym just) (just_made inside number)
     ];
@@ -127,13 +127,13 @@ module _ (chip : Chip) (copies new : Network NetCopy) (w : Windows) (ordered : L
         let step = owes name t within in
         elim (cases_eq name.0 q.source) [
           | inl same ↦
-              let grows = ap (times_named name) (ap (made_by ordered more) same ∙ made_by-own) ∙ times_named-push name (made_by ordered unordered q.source) q in
-              let as_before = ap (λ (u : ℕ). times_named name (made_by ordered unordered u)) same in
+              let grows = ap (times_named name) (ap (requests_of_tile ordered more) same ∙ requests_of_tile-own) ∙ times_named-push name (requests_of_tile ordered unordered q.source) q in
+              let as_before = ap (λ (u : ℕ). times_named name (requests_of_tile ordered unordered u)) same in
               omega (arith, before, step, grows, as_before)
           | inr other ↦
               let away : (q.source == name.0) ≡ false = ne_eqb q.source name.0 (λ e. other (sym e)) in
               let nothing : count_if (is_named name q) ≡ 0 = rw away refl in
-              let same = ap (times_named name) (made_by-others name.0 other) in
+              let same = ap (times_named name) (requests_of_tile-others name.0 other) in
               omega (arith, before, step, nothing, same)
         ];
     reserved = λ router port copy within stands. ordered_if_reserved chip copies w ordered unordered delivered router port copy.request accounted within (reserves router port copy.request (stands_there new router port chip.vcs copy stands));
@@ -149,7 +149,7 @@ IsAccounted-hop chip copies new w ordered unordered delivered r out expected com
   made = accounted.made;
   posted = accounted.posted;
   in_order = accounted.in_order;
-  of_made = λ router port slot copy stands. made_if_on_the_way chip copies w ordered unordered delivered copy.request accounted (comes copy.request (on_the_way new router port slot copy stands));
+  of_made = λ router port slot copy stands. made_if_on_the_way chip copies w ordered unordered delivered copy.request accounted (comes copy.request (has_copies new router port slot copy stands));
   owed = λ name t source within. let before = accounted.owed name t source within in let step = owes name t within in omega (arith, before, step);
   reserved = λ router port copy within stands. elim (reserves router port copy.request (stands_there new router port chip.vcs copy stands)) [
     | inl before ↦ ordered_if_reserved chip copies w ordered unordered delivered router port copy.request accounted within before
@@ -170,7 +170,7 @@ IsAccounted-eject chip copies new w ordered unordered delivered more t q there c
   made = accounted.made;
   posted = accounted.posted;
   in_order = accounted.in_order;
-  of_made = λ router port slot copy stands. made_if_on_the_way chip copies w ordered unordered delivered copy.request accounted (comes copy.request (on_the_way new router port slot copy stands));
+  of_made = λ router port slot copy stands. made_if_on_the_way chip copies w ordered unordered delivered copy.request accounted (comes copy.request (has_copies new router port slot copy stands));
   owed = λ name u source within.
       let before = accounted.owed name u source within in
       let step = owes name u within in

@@ -21,7 +21,7 @@ use Rattle.chip_model.specs.CopiesOwed.{CopiesFit, NoneAhead, owing, times_named
 use Rattle.chip_model.specs.NetworkFits.{InterfaceAgrees, NetworkFits, requests_of}
 use Rattle.net_iface.specs.OrderedNet.{FewAreLeft}
 use Rattle.net_iface.specs.Unordered.{unordered_of}
-use Rattle.net_iface.specs.Parts.{Parts, made_by, interface_of, network_of, AreKept}
+use Rattle.net_iface.specs.Parts.{Parts, requests_of_tile, interface_of, network_of, AreKept}
 use Rattle.net_iface.proofs.Named.{length-requests_of}
 use Rattle.net_iface.proofs.Interfaces.{tile_within, tile_is}
 use Rattle.net_iface.proofs.Expected.{interface_at}
@@ -71,8 +71,8 @@ network_fits p kept channels windows fit ahead =
           let inside_source = tile_within f n source from from_is in
           let inside_t = tile_within f n t to to_is in
           let balance = kept.accounted.owed name t (omega (arith, inside_source, named)) inside_t in
-          let made : times_named name (made_by p.ordered p.unordered name.0) ≡ times_named name from.made =
-          ap (λ (s : ℕ). times_named name (made_by p.ordered p.unordered s)) named ∙ ap (λ (i : Interface). times_named name i.made) (tile_is f n source from from_is)
+          let made : times_named name (requests_of_tile p.ordered p.unordered name.0) ≡ times_named name from.made =
+          ap (λ (s : ℕ). times_named name (requests_of_tile p.ordered p.unordered s)) named ∙ ap (λ (i : Interface). times_named name i.made) (tile_is f n source from from_is)
           in
           let delivered : times_named name (take (slice_index p.delivered t) p.ordered) ≡ times_named name (take to.delivered p.ordered) =
           ap (λ (i : Interface). times_named name (take i.delivered p.ordered)) (tile_is f n t to to_is)
@@ -85,7 +85,7 @@ network_fits p kept channels windows fit ahead =
           (up.place, up.request, up.there, up.named, omega (arith, up.before, delivered));
     }
 
--- windows behind one that is not used up have an entry each, which the tile has not delivered
+-- windows after one that is not used up have an entry each, which the tile has not delivered
 pub few_are_left : (p : Parts) → AreKept p → WindowsFit p.chip p.windows.windows
     → ((t : ℕ) (names : List Name) → AllPairs (λ a b. a ≢ b) names → All (λ name. 0 < owing p.chip.grid p.routers.copies name t) names → length names ≤ channel_count p.chip) → FewAreLeft p.chip (network_of p)
 few_are_left p kept fit law = λ t taken used interface there counted more left.

@@ -7,16 +7,16 @@ use Rattle.std.proofs.lemmas.List.{get_or-set_same, get_or-set_other, length-map
 use Rattle.std.proofs.lemmas.List.Sums.{count_by-le-length}
 use Rattle.std.proofs.lemmas.Option.{slice_get_within}
 use Rattle.mesh_gen.specs.declared.request.Request.{Request}
-use Rattle.order_tracker.specs.Tracker.{TrackerState, next_of}
+use Rattle.order_tracker.specs.Tracker.{TrackerState, next_request_of}
 use Rattle.chip_model.specs.Chip.{tile_count}
 use Rattle.chip_model.specs.Copies.{Name, name_of}
 use Rattle.chip_model.specs.OrderedNetwork.{Interface, sources, with_interface, expected_at}
 use Rattle.chip_model.specs.Bookkeeping.{count_by_tile}
-use Rattle.chip_model.specs.CopiesOwed.{IsOnTheWay, OwesLess, NoneComes, ReservesNothing}
+use Rattle.chip_model.specs.CopiesOwed.{HasCopies, OwesLess, NoneComes, ReservesNothing}
 use Rattle.router_xy.specs.RequestNetwork.{RequestNetwork}
 use Rattle.chip_model.specs.NetworkFits.{requests_of}
 use Rattle.net_iface.specs.Unordered.{unordered_of}
-use Rattle.net_iface.specs.Parts.{Parts, made_by, interface_of, interfaces_of, network_of, IsFollowing, AreKept}
+use Rattle.net_iface.specs.Parts.{Parts, requests_of_tile, interface_of, interfaces_of, network_of, IsFollowing, AreKept}
 use Rattle.net_iface.specs.Trackers.{MayPass, PassesAt}
 use Rattle.net_iface.proofs.Named.{slice_get_grown, request_at, number_at}
 use Rattle.net_iface.proofs.Interfaces.{other_at}
@@ -26,7 +26,7 @@ use Rattle.net_iface.proofs.Accounts.{made_if_on_the_way, IsAccounted-eject}
 use Rattle.net_iface.proofs.Places.{same_some, item_at}
 
 -- the request that is served is that of the order
-pub is_next : (p : Parts) (t : ℕ) (name : Name) (q : Request) → AreKept p → expected_at p.chip (network_of p) t ≡ Some name → IsOnTheWay p.routers.copies q → name_of q ≡ name
+pub is_next : (p : Parts) (t : ℕ) (name : Name) (q : Request) → AreKept p → expected_at p.chip (network_of p) t ≡ Some name → HasCopies p.routers.copies q → name_of q ≡ name
     → slice_get p.ordered (slice_index p.delivered t) ≡ Some q
 is_next p t name q kept expects stood named =
     let inside = expects_tile p t name expects in
@@ -34,14 +34,14 @@ is_next p t name q kept expects stood named =
     let d = slice_index p.delivered t in
     let all = kept.accounted.made entry.request.source entry.source in
     let number = number_at entry.request.source d p.ordered (unordered_of p.unordered entry.request.source) entry.request all entry.there refl in
-    let here : slice_get (made_by p.ordered p.unordered entry.request.source) entry.request.number ≡ Some entry.request =
-    ap (slice_get (made_by p.ordered p.unordered entry.request.source)) number
+    let here : slice_get (requests_of_tile p.ordered p.unordered entry.request.source) entry.request.number ≡ Some entry.request =
+    ap (slice_get (requests_of_tile p.ordered p.unordered entry.request.source)) number
     ∙ slice_get_grown (requests_of entry.request.source p.ordered) (unordered_of p.unordered entry.request.source) (count_by_tile entry.request.source (take d p.ordered)) entry.request (request_at entry.request.source p.ordered d entry.request entry.there refl)
     in
     let made_q = (made_if_on_the_way p.chip p.routers.copies p.windows.windows p.ordered p.unordered p.delivered q kept.accounted stood).made in
     let names : name_of entry.request ≡ name_of q = entry.named ∙ sym named in
     let same : entry.request ≡ q =
-    same_some entry.request q (sym here ∙ ap (λ (n : Name). slice_get (made_by p.ordered p.unordered n.0) n.1) names ∙ made_q)
+    same_some entry.request q (sym here ∙ ap (λ (n : Name). slice_get (requests_of_tile p.ordered p.unordered n.0) n.1) names ∙ made_q)
     in
     entry.there ∙ ap Some same
 
@@ -51,7 +51,7 @@ may_pass p t name kept expects tracker there =
     let inside = expects_tile p t name expects in
     let entry = expected_is_there p t name kept inside expects in
     let d = slice_index p.delivered t in
-    let next : next_of tracker ≡ Some name = ap (option_and_then next_of) (sym there) ∙ next_expected p t kept ∙ expects in
+    let next : next_request_of tracker ≡ Some name = ap (option_and_then next_request_of) (sym there) ∙ next_expected p t kept ∙ expects in
     let number = number_at entry.request.source d p.ordered (unordered_of p.unordered entry.request.source) entry.request (kept.accounted.made entry.request.source entry.source) entry.there refl in
     let low : count_by_tile entry.request.source (take d p.ordered) ≤ d =
     omega (arith, count_by-le-length (λ s. s == entry.request.source) (sources (take d p.ordered)), length-map (take d p.ordered) (λ (q : Request). q.source), length-take d p.ordered)

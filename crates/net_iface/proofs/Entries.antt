@@ -1,4 +1,4 @@
--- The request that a tile expects is the one of the order behind those that the tile has delivered.
+-- The request that a tile expects is the one of the order after those that the tile has delivered.
 use Rattle.std.proofs.Common.{◌≡◌, ℕ, zero, suc, ◌+◌, ◌<◌, List, [], ◌∷◌, ◌++◌, length, take, drop, Option, Some, None, refl, sym, ◌∙◌, ap, subst, arith}
 use Rattle.std.specs.Prelude.{slice_get, slice_index, option_map}
 use Rattle.std.specs.List.{AllByRecursion}
@@ -12,7 +12,7 @@ use Rattle.order_tracker.proofs.Sequence.{order_from-below}
 use Rattle.chip_model.specs.Partial.{◌>>=◌}
 use Rattle.chip_model.specs.Chip.{tile_count}
 use Rattle.chip_model.specs.Copies.{Name, name_of}
-use Rattle.chip_model.specs.OrderedNetwork.{sources, expected_at, expected_behind}
+use Rattle.chip_model.specs.OrderedNetwork.{sources, expected_at, expected_at_next_hop}
 use Rattle.chip_model.specs.Bookkeeping.{AreMadeBy, count_by_tile}
 use Rattle.chip_model.specs.NetworkFits.{requests_of}
 use Rattle.net_iface.specs.Unordered.{unordered_of}
@@ -100,9 +100,9 @@ expected_is_there p t name kept inside is =
     (sym (expected_at-some p t kept.sizes inside) ∙ is)
 
 -- what the tile on a side expects
-pub expected_behind_is_there : (p : Parts) (r : ℕ) (out : Port) (expected : Option Name) → AreKept p → expected ≡ expected_behind p.chip (network_of p) r out
+pub expected_at_next_hop_is_there : (p : Parts) (r : ℕ) (out : Port) (expected : Option Name) → AreKept p → expected ≡ expected_at_next_hop p.chip (network_of p) r out
     → (router : ℕ) (name : Name) → router < tile_count p.chip → neighbour p.chip.grid r out ≡ Some router → expected ≡ Some name → IsOrderedUpTo p.ordered (slice_index p.delivered router) name
-expected_behind_is_there p r out expected kept behind router name inside next is =
+expected_at_next_hop_is_there p r out expected kept behind router name inside next is =
     let here : expected_at p.chip (network_of p) router ≡ Some name = sym (ap (λ (o : Option ℕ). o >>= expected_at p.chip (network_of p)) next) ∙ sym behind ∙ is in
     let found = expected_is_there p router name kept inside here in
     record { place = slice_index p.delivered router; request = found.request; there = found.there; named = found.named; before = omega arith }

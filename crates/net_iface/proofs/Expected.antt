@@ -4,7 +4,7 @@ use Rattle.std.specs.Prelude.{slice_get, slice_index, option_and_then}
 use Rattle.std.proofs.lemmas.Bool.{cases_lt}
 use Rattle.std.proofs.lemmas.Option.{slice_get-get_or, slice_get_within}
 use Rattle.order_tracker.specs.Order.{order, entry_at}
-use Rattle.order_tracker.specs.Tracker.{TrackerState, next_of}
+use Rattle.order_tracker.specs.Tracker.{TrackerState, next_request_of}
 use Rattle.order_tracker.proofs.Sequence.{entry_follows}
 use Rattle.chip_model.specs.Chip.{tile_count}
 use Rattle.chip_model.specs.Copies.{Name}
@@ -32,7 +32,7 @@ pub expected_at-none : (p : Parts) (t : ℕ) → tile_count p.chip ≤ t → exp
 unfolding expected_at
 expected_at-none p t past = rw (no_interface p t past) refl
 
-next_by : (p : Parts) (t : ℕ) (tracker : Option TrackerState) → slice_get p.trackers t ≡ tracker → AreKept p → option_and_then next_of tracker ≡ expected_at p.chip (network_of p) t
+next_by : (p : Parts) (t : ℕ) (tracker : Option TrackerState) → slice_get p.trackers t ≡ tracker → AreKept p → option_and_then next_request_of tracker ≡ expected_at p.chip (network_of p) t
 next_by p t None is kept = sym (expected_at-none p t (omega (arith, past_end p.trackers t is, kept.sizes.trackers)))
 next_by p t (Some tracker) is kept =
     let inside : t < tile_count p.chip = omega (arith, slice_get_within p.trackers t tracker is, kept.sizes.trackers) in
@@ -41,7 +41,7 @@ next_by p t (Some tracker) is kept =
     entry_follows (take (slice_index p.windows.windows.taken t) p.windows.windows.closed) (slice_index p.delivered t) tracker some following.follows
     ∙ rw following.tiles (sym (expected_at-some p t kept.sizes inside))
 
-pub next_expected : (p : Parts) (t : ℕ) → AreKept p → option_and_then next_of (slice_get p.trackers t) ≡ expected_at p.chip (network_of p) t
+pub next_expected : (p : Parts) (t : ℕ) → AreKept p → option_and_then next_request_of (slice_get p.trackers t) ≡ expected_at p.chip (network_of p) t
 next_expected p t kept = next_by p t (slice_get p.trackers t) refl kept
 
 -- only a tile expects a request

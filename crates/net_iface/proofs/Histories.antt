@@ -15,10 +15,10 @@ use Rattle.order_tracker.specs.Order.{order, entry_at}
 use Rattle.chip_model.specs.declared.net_copy.NetCopy.{NetCopy}
 use Rattle.chip_model.specs.Partial.{◌>>=◌}
 use Rattle.chip_model.specs.Chip.{Chip, tile_count}
-use Rattle.chip_model.specs.Copies.{Name, name_of, served}
-use Rattle.chip_model.specs.OrderedNetwork.{OrderedNetwork, Interface, with_interface, expected_at, delivered_next, injected, request_posted, network_ticked, vector_taken, copy_hopped}
+use Rattle.chip_model.specs.Copies.{Name, name_of, after_serve}
+use Rattle.chip_model.specs.OrderedNetwork.{OrderedNetwork, Interface, with_interface, expected_at, after_delivery, after_inject, after_request_post, after_network_tick, after_vector_take, after_copy_hop}
 use Rattle.chip_model.specs.Bookkeeping.{AreMadeBy, count_by_tile}
-use Rattle.chip_model.specs.CopiesOwed.{IsOnTheWay}
+use Rattle.chip_model.specs.CopiesOwed.{HasCopies}
 use Rattle.router_xy.specs.CopySteps.{Serves}
 use Rattle.chip_model.specs.NetworkFits.{requests_of}
 use Rattle.net_iface.specs.OrderedNet.{delivered_counts}
@@ -33,7 +33,7 @@ use Rattle.net_iface.proofs.Accords.{Agrees, Accords, Keeps, EntersAlone, HopsWi
 use Rattle.net_iface.proofs.Ticks.{keeps-tick}
 
 abbrev pub ServesNamed : Type 0
-ServesNamed = (old new : Network NetCopy) (r : ℕ) (name : Name) (q : Request) → served old r name ≡ Some (q, new) → Serves old new name q
+ServesNamed = (old new : Network NetCopy) (r : ℕ) (name : Name) (q : Request) → after_serve old r name ≡ Some (q, new) → Serves old new name q
 
 -- the network accords, and each tile has delivered the requests of the prefix that it counts
 pub record IsHistory (chip : Chip) (h : History) : Type 0 where
@@ -45,7 +45,7 @@ pub record IsHistory (chip : Chip) (h : History) : Type 0 where
 module _ (chip : Chip) (net : OrderedNetwork) (accords : Accords chip net) (some : 0 < tile_count chip) where
   -- a request that is on the way and has the name of the next one is the next one
   next_is : (t : ℕ) (interface : Interface) (taken : ℕ) (name : Name) (q : Request) → slice_get net.interfaces t ≡ Some interface
-      → entry_at (order (tile_count chip) (take taken net.windows.closed)) interface.delivered ≡ Some name → IsOnTheWay net.copies q → name_of q ≡ name → slice_get net.ordered interface.delivered ≡ Some q
+      → entry_at (order (tile_count chip) (take taken net.windows.closed)) interface.delivered ≡ Some name → HasCopies net.copies q → name_of q ≡ name → slice_get net.ordered interface.delivered ≡ Some q
   next_is t interface taken name q there entry stood named =
       let whole = one_order_of chip net accords in
       let next = entry_there (tile_count chip) taken interface.delivered net.ordered net.windows.closed name (λ u. []) some accords.in_order
@@ -78,13 +78,13 @@ pub record IsDelivery (chip : Chip) (old new : OrderedNetwork) (t : ℕ) (q : Re
   pub there : slice_get old.interfaces t ≡ Some was
   pub next : slice_get old.ordered was.delivered ≡ Some q
   pub copies : Network NetCopy
-  pub comes : (r : Request) → IsOnTheWay copies r → IsOnTheWay old.copies r
+  pub comes : (r : Request) → HasCopies copies r → HasCopies old.copies r
   pub is : new ≡ with_interface (record old { copies = copies }) t (record was { delivered = was.delivered + 1 })
 
-delivery_of : (chip : Chip) (old new : OrderedNetwork) (t : ℕ) (q : Request) → Accords chip old → 0 < tile_count chip → ServesNamed → delivered_next chip old t ≡ Some (q, new) → IsDelivery chip old new t q
-unfolding delivered_next expected_at
+delivery_of : (chip : Chip) (old new : OrderedNetwork) (t : ℕ) (q : Request) → Accords chip old → 0 < tile_count chip → ServesNamed → after_delivery chip old t ≡ Some (q, new) → IsDelivery chip old new t q
+unfolding after_delivery expected_at
 delivery_of chip old new t q accords some serves is =
-    bind_eq P (slice_get old.interfaces t) _ (λ interface there last done. bind_eq P (expected_at chip old t) _ (λ name expects last done. bind_eq P (served old.copies t name) _
+    bind_eq P (slice_get old.interfaces t) _ (λ interface there last done. bind_eq P (expected_at chip old t) _ (λ name expects last done. bind_eq P (after_serve old.copies t name) _
     (λ out serve last is. made P (out.0, with_interface (record old { copies = out.1 }) t (record interface { delivered = interface.delivered + 1 })) last (found interface there name expects out serve) is)
     last done) last done) (q, new) is
   where
@@ -98,7 +98,7 @@ delivery_of chip old new t q accords some serves is =
         (λ taken counted n found. (taken, found)) name
         (sym (ap (λ (o : Option Interface). o >>= (λ i. slice_get old.windows.taken t >>= (λ taken. entry_at (order (tile_count chip) (take taken old.windows.closed)) i.delivered))) there) ∙ expects)
 
-    found : (interface : Interface) → slice_get old.interfaces t ≡ Some interface → (name : Name) → expected_at chip old t ≡ Some name → (out : Request × Network NetCopy) → served old.copies t name ≡ Some out
+    found : (interface : Interface) → slice_get old.interfaces t ≡ Some interface → (name : Name) → expected_at chip old t ≡ Some name → (out : Request × Network NetCopy) → after_serve old.copies t name ≡ Some out
         → IsDelivery chip old (with_interface (record old { copies = out.1 }) t (record interface { delivered = interface.delivered + 1 })) t out.0
     found interface there name expects out serve =
         let step = serves old.copies out.1 t name out.0 serve in
@@ -180,17 +180,17 @@ module _ (chip : Chip) (some : 0 < tile_count chip) (enters : EntersAlone) (hops
   next_history : (h next : History) (call : NetworkCall) → IsHistory chip h → called chip h call ≡ Some next → IsHistory chip next
   unfolding called
   next_history h next (Inject t kind line) history is =
-      bind_eq (IsHistory chip) (injected chip h.network t kind line) _ (λ net step y is. made (IsHistory chip) _ y (goes_on chip h net history (keeps-inject chip h.network history.accords enters t kind line net step)) is) next is
+      bind_eq (IsHistory chip) (after_inject chip h.network t kind line) _ (λ net step y is. made (IsHistory chip) _ y (goes_on chip h net history (keeps-inject chip h.network history.accords enters t kind line net step)) is) next is
   next_history h next (Post t) history is =
-      bind_eq (IsHistory chip) (request_posted h.network t) _ (λ net step y is. made (IsHistory chip) _ y (goes_on chip h net history (keeps-post chip h.network history.accords t net step)) is) next is
+      bind_eq (IsHistory chip) (after_request_post h.network t) _ (λ net step y is. made (IsHistory chip) _ y (goes_on chip h net history (keeps-post chip h.network history.accords t net step)) is) next is
   next_history h next Tick history is =
-      bind_eq (IsHistory chip) (network_ticked chip h.network) _ (λ net step y is. made (IsHistory chip) _ y (goes_on chip h net history (keeps-tick chip h.network history.accords some net step)) is) next is
+      bind_eq (IsHistory chip) (after_network_tick chip h.network) _ (λ net step y is. made (IsHistory chip) _ y (goes_on chip h net history (keeps-tick chip h.network history.accords some net step)) is) next is
   next_history h next (Take t) history is =
-      bind_eq (IsHistory chip) (vector_taken h.network t) _ (λ net step y is. made (IsHistory chip) _ y (goes_on chip h net history (keeps-take chip h.network history.accords t net step)) is) next is
+      bind_eq (IsHistory chip) (after_vector_take h.network t) _ (λ net step y is. made (IsHistory chip) _ y (goes_on chip h net history (keeps-take chip h.network history.accords t net step)) is) next is
   next_history h next (Hop r port slot out) history is =
-      bind_eq (IsHistory chip) (copy_hopped chip h.network r port slot out) _ (λ net step y is. made (IsHistory chip) _ y (goes_on chip h net history (keeps-hop chip h.network history.accords hops r port slot out net step)) is) next is
+      bind_eq (IsHistory chip) (after_copy_hop chip h.network r port slot out) _ (λ net step y is. made (IsHistory chip) _ y (goes_on chip h net history (keeps-hop chip h.network history.accords hops r port slot out net step)) is) next is
   next_history h next (Eject t) history is =
-      bind_eq (IsHistory chip) (delivered_next chip h.network t) _
+      bind_eq (IsHistory chip) (after_delivery chip h.network t) _
       (λ out step y is. made (IsHistory chip) _ y (delivers chip h out.1 t out.0 history (delivery_of chip h.network out.1 t out.0 history.accords some serves step)) is) next is
 
   later_history : (calls : List NetworkCall) (h last : History) → IsHistory chip h → history_of chip h calls ≡ Some last → IsHistory chip last

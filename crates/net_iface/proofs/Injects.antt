@@ -19,12 +19,12 @@ use Rattle.chip_model.specs.OrderedNetwork.{Interface, with_interface, next_requ
 use Rattle.chip_model.specs.CopiesOwed.{owing, OwesMore, ComesAlone, ReservesNothing, channel_count}
 use Rattle.router_xy.specs.RequestNetwork.{RequestNetwork, IsAbsent}
 use Rattle.chip_model.specs.NetworkFits.{requests_of}
-use Rattle.net_iface.specs.Unordered.{list_of, unordered_of, with_last}
-use Rattle.net_iface.specs.Parts.{Parts, made_by, interface_of, interfaces_of, network_of, IsAccounted, AreKept}
+use Rattle.net_iface.specs.Unordered.{unordered_at, unordered_of, with_last}
+use Rattle.net_iface.specs.Parts.{Parts, requests_of_tile, interface_of, interfaces_of, network_of, IsAccounted, AreKept}
 use Rattle.net_iface.proofs.Named.{length-requests_of}
 use Rattle.net_iface.proofs.Interfaces.{other_at}
 use Rattle.net_iface.proofs.Expected.{interface_at, no_interface}
-use Rattle.net_iface.proofs.Accounts.{IsAccounted-inject, made_by-own, made_by-others}
+use Rattle.net_iface.proofs.Accounts.{IsAccounted-inject, requests_of_tile-own, requests_of_tile-others}
 use Rattle.net_iface.proofs.Room.{unordered_few}
 
 -- ---- the next request of a tile
@@ -55,22 +55,22 @@ next_is p t kind line q is = elim (cases_lt t (tile_count p.chip)) [
 pub next_source : (p : Parts) (t : ℕ) (kind : Kind) (line : ℕ) (q : Request) → IsNextOf p t kind line q → q.source ≡ t
 next_source p t kind line q next = ap (λ (r : Request). r.source) (sym next.is)
 
-pub next_number : (p : Parts) (t : ℕ) (kind : Kind) (line : ℕ) (q : Request) → IsNextOf p t kind line q → q.number ≡ length (made_by p.ordered p.unordered q.source)
+pub next_number : (p : Parts) (t : ℕ) (kind : Kind) (line : ℕ) (q : Request) → IsNextOf p t kind line q → q.number ≡ length (requests_of_tile p.ordered p.unordered q.source)
 next_number p t kind line q next =
-    ap (λ (r : Request). r.number) (sym next.is) ∙ ap (λ (s : ℕ). length (made_by p.ordered p.unordered s)) (sym (next_source p t kind line q next))
+    ap (λ (r : Request). r.number) (sym next.is) ∙ ap (λ (s : ℕ). length (requests_of_tile p.ordered p.unordered s)) (sym (next_source p t kind line q next))
 
 -- the network in which the tile has made it
 pub next_made : (p : Parts) (copies : Network NetCopy) (t : ℕ) (kind : Kind) (line : ℕ) (q : Request) → IsNextOf p t kind line q
     → with_interface (record (network_of p) { copies = copies }) t
     (record (interface_of p.windows.windows.posts p.ordered p.unordered p.delivered t)
-    { made = made_by p.ordered p.unordered t ++ next_request t (interface_of p.windows.windows.posts p.ordered p.unordered p.delivered t) kind line ∷ [] })
+    { made = requests_of_tile p.ordered p.unordered t ++ next_request t (interface_of p.windows.windows.posts p.ordered p.unordered p.delivered t) kind line ∷ [] })
     ≡ with_interface (record (network_of p) { copies = copies }) q.source
-    (record (interface_of p.windows.windows.posts p.ordered p.unordered p.delivered q.source) { made = made_by p.ordered p.unordered q.source ++ q ∷ [] })
+    (record (interface_of p.windows.windows.posts p.ordered p.unordered p.delivered q.source) { made = requests_of_tile p.ordered p.unordered q.source ++ q ∷ [] })
 next_made p copies t kind line q next =
     ap (λ (r : Request). with_interface (record (network_of p) { copies = copies }) t
-    (record (interface_of p.windows.windows.posts p.ordered p.unordered p.delivered t) { made = made_by p.ordered p.unordered t ++ r ∷ [] })) next.is
+    (record (interface_of p.windows.windows.posts p.ordered p.unordered p.delivered t) { made = requests_of_tile p.ordered p.unordered t ++ r ∷ [] })) next.is
     ∙ ap (λ (u : ℕ). with_interface (record (network_of p) { copies = copies }) u
-    (record (interface_of p.windows.windows.posts p.ordered p.unordered p.delivered u) { made = made_by p.ordered p.unordered u ++ q ∷ [] })) (sym (next_source p t kind line q next))
+    (record (interface_of p.windows.windows.posts p.ordered p.unordered p.delivered u) { made = requests_of_tile p.ordered p.unordered u ++ q ∷ [] })) (sym (next_source p t kind line q next))
 
 pub no_next : (p : Parts) (t : ℕ) (kind : Kind) (line : ℕ) → option_map {U = Request} (λ interface. next_request t interface kind line) (slice_get (network_of p).interfaces t) ≡ None → slice_get (network_of p).interfaces t ≡ None
 no_next p t kind line none = by (slice_get (network_of p).interfaces t) none
@@ -80,7 +80,7 @@ no_next p t kind line none = by (slice_get (network_of p).interfaces t) none
     by (Some interface) none = cc
 
 -- no copy of it stands
-pub absent : (p : Parts) (q : Request) → AreKept p → q.number ≡ length (made_by p.ordered p.unordered q.source) → IsAbsent p.routers.copies (name_of q)
+pub absent : (p : Parts) (q : Request) → AreKept p → q.number ≡ length (requests_of_tile p.ordered p.unordered q.source) → IsAbsent p.routers.copies (name_of q)
 absent p q kept number = λ router port slot copy stands. elim (cases_Bool (is_named (name_of q) copy.request)) [
   | inr other ↦ other
   | inl named ↦
@@ -88,13 +88,13 @@ absent p q kept number = λ router port slot copy stands. elim (cases_Bool (is_n
       let source = eqb-true copy.request.source q.source parts.0 in
       let same_number = eqb-true copy.request.number q.number parts.1 in
       let of = kept.accounted.of_made router port slot copy stands in
-      let within = slice_get_within (made_by p.ordered p.unordered copy.request.source) copy.request.number copy.request of.made in
-      let as_long = ap (λ (s : ℕ). length (made_by p.ordered p.unordered s)) source in
+      let within = slice_get_within (requests_of_tile p.ordered p.unordered copy.request.source) copy.request.number copy.request of.made in
+      let as_long = ap (λ (s : ℕ). length (requests_of_tile p.ordered p.unordered s)) source in
       absurd (omega (arith, within, as_long, number, same_number))
 ]
 
 -- a tile has not made more requests than there may be ordered and under way
-pub made_below : (p : Parts) (t : ℕ) → AreKept p → t < tile_count p.chip → p.chip.vcs ≤ 8 → length (unordered_of p.unordered t) ≤ channel_count p.chip → length (made_by p.ordered p.unordered t) + 1 < 2 ^ 32
+pub made_below : (p : Parts) (t : ℕ) → AreKept p → t < tile_count p.chip → p.chip.vcs ≤ 8 → length (unordered_of p.unordered t) ≤ channel_count p.chip → length (requests_of_tile p.ordered p.unordered t) + 1 < 2 ^ 32
 made_below p t kept inside vcs few =
     let ordered : length (requests_of t p.ordered) ≤ length p.ordered =
     omega (arith, length-requests_of t p.ordered, count_by-le-length (λ s. s == t) (sources p.ordered), length-map p.ordered (λ (q : Request). q.source))
@@ -108,17 +108,17 @@ made_below p t kept inside vcs few =
         let first : n * (5 * vcs + 4) ≤ n * 44 = mul-le-mul_left n per_tile in
         omega (arith, first, few)
 
--- ---- the request goes behind those of its tile
+-- ---- the request goes after those of its tile
 
-module _ (p : Parts) (routers : RequestNetwork) (q : Request) (kept : AreKept p) (inside : q.source < tile_count p.chip) (number : q.number ≡ length (made_by p.ordered p.unordered q.source)) where
+module _ (p : Parts) (routers : RequestNetwork) (q : Request) (kept : AreKept p) (inside : q.source < tile_count p.chip) (number : q.number ≡ length (requests_of_tile p.ordered p.unordered q.source)) where
   abbrev more : List (Buffer Request)
-  more = slice_set p.unordered q.source (with_last (list_of p.unordered q.source) q)
+  more = slice_set p.unordered q.source (with_last (unordered_at p.unordered q.source) q)
 
-  there : list_of more q.source ≡ with_last (list_of p.unordered q.source) q
-  there = get_or-set_same p.unordered q.source (with_last (list_of p.unordered q.source) q) (buffer [] 0) (omega (arith, kept.sizes.unordered))
+  there : unordered_at more q.source ≡ with_last (unordered_at p.unordered q.source) q
+  there = get_or-set_same p.unordered q.source (with_last (unordered_at p.unordered q.source) q) (buffer [] 0) (omega (arith, kept.sizes.unordered))
 
-  others : (u : ℕ) → u ≢ q.source → list_of more u ≡ list_of p.unordered u
-  others u other = get_or-set_other p.unordered q.source u (with_last (list_of p.unordered q.source) q) (buffer [] 0) other
+  others : (u : ℕ) → u ≢ q.source → unordered_at more u ≡ unordered_at p.unordered u
+  others u other = get_or-set_other p.unordered q.source u (with_last (unordered_at p.unordered q.source) q) (buffer [] 0) other
 
   accounted : OwesMore p.chip.grid q p.routers.copies routers.copies → ComesAlone q p.routers.copies routers.copies → ReservesNothing p.chip.vcs p.routers.copies routers.copies
       → IsAccounted p.chip routers.copies p.windows.windows p.ordered more p.delivered
@@ -127,7 +127,7 @@ module _ (p : Parts) (routers : RequestNetwork) (q : Request) (kept : AreKept p)
 
   pub has_room : OwesMore p.chip.grid q p.routers.copies routers.copies → ComesAlone q p.routers.copies routers.copies → ReservesNothing p.chip.vcs p.routers.copies routers.copies
       → ((names : List Name) → AllPairs (λ a b. a ≢ b) names → All (λ name. 0 < owing p.chip.grid routers.copies name q.source) names → length names ≤ channel_count p.chip)
-      → length (unordered_of p.unordered q.source) < (list_of p.unordered q.source).capacity
+      → length (unordered_of p.unordered q.source) < (unordered_at p.unordered q.source).capacity
   has_room owes comes reserves law =
       let few = unordered_few p.chip routers.copies p.windows.windows p.ordered more p.delivered q.source (accounted owes comes reserves) kept.sizes.some inside law in
       let longer : length (unordered_of more q.source) ≡ length (unordered_of p.unordered q.source) + 1 =
@@ -151,49 +151,49 @@ module _ (p : Parts) (routers : RequestNetwork) (q : Request) (kept : AreKept p)
       within = kept.sizes.within;
       taken = kept.sizes.taken;
       trackers = kept.sizes.trackers;
-      unordered = ap length is ∙ length-set p.unordered q.source (with_last (list_of p.unordered q.source) q) ∙ kept.sizes.unordered;
+      unordered = ap length is ∙ length-set p.unordered q.source (with_last (unordered_at p.unordered q.source) q) ∙ kept.sizes.unordered;
       made = ap length counts ∙ length-set p.made q.source (slice_index p.made q.source + 1) ∙ kept.sizes.made;
       delivered = kept.sizes.delivered;
     };
     accounted = subst (λ (lists : List (Buffer Request)). IsAccounted p.chip routers.copies p.windows.windows p.ordered lists p.delivered) (sym is) (accounted owes comes reserves);
     trackers = kept.trackers;
     capacities = λ t within.
-        ap (λ (lists : List (Buffer Request)). (list_of lists t).capacity) is
+        ap (λ (lists : List (Buffer Request)). (unordered_at lists t).capacity) is
         ∙ elim (cases_eq t q.source) [
           | inl same ↦
-              ap (λ (u : ℕ). (list_of more u).capacity) same ∙ ap (λ (list : Buffer Request). list.capacity) there ∙ kept.capacities q.source inside
+              ap (λ (u : ℕ). (unordered_at more u).capacity) same ∙ ap (λ (list : Buffer Request). list.capacity) there ∙ kept.capacities q.source inside
           | inr other ↦ ap (λ (list : Buffer Request). list.capacity) (others t other) ∙ kept.capacities t within
         ];
     counts = λ t within.
         ap (λ (ns : List ℕ). slice_index ns t) counts
         ∙ elim (cases_eq t q.source) [
           | inl same ↦
-              let longer = ap length (made_by-own p.chip p.routers.copies routers.copies p.windows.windows p.ordered p.unordered more p.delivered q there others) in
-              let own = length-append (made_by p.ordered p.unordered q.source) (q ∷ []) in
+              let longer = ap length (requests_of_tile-own p.chip p.routers.copies routers.copies p.windows.windows p.ordered p.unordered more p.delivered q there others) in
+              let own = length-append (requests_of_tile p.ordered p.unordered q.source) (q ∷ []) in
               let now : slice_index (slice_set p.made q.source (slice_index p.made q.source + 1)) q.source ≡ slice_index p.made q.source + 1 =
               get_or-set_same p.made q.source (slice_index p.made q.source + 1) 0 (omega (arith, kept.sizes.made))
               in
               let before = kept.counts q.source inside in
-              let here : slice_index (slice_set p.made q.source (slice_index p.made q.source + 1)) q.source ≡ length (made_by p.ordered more q.source) = omega (arith, longer, own, now, before) in
-              ap (λ (u : ℕ). slice_index (slice_set p.made q.source (slice_index p.made q.source + 1)) u) same ∙ here ∙ ap (λ (u : ℕ). length (made_by p.ordered more u)) (sym same)
+              let here : slice_index (slice_set p.made q.source (slice_index p.made q.source + 1)) q.source ≡ length (requests_of_tile p.ordered more q.source) = omega (arith, longer, own, now, before) in
+              ap (λ (u : ℕ). slice_index (slice_set p.made q.source (slice_index p.made q.source + 1)) u) same ∙ here ∙ ap (λ (u : ℕ). length (requests_of_tile p.ordered more u)) (sym same)
           | inr other ↦
               get_or-set_other p.made q.source t (slice_index p.made q.source + 1) 0 other ∙ kept.counts t within
-              ∙ ap length (sym (made_by-others p.chip p.routers.copies routers.copies p.windows.windows p.ordered p.unordered more p.delivered q there others t other))
+              ∙ ap length (sym (requests_of_tile-others p.chip p.routers.copies routers.copies p.windows.windows p.ordered p.unordered more p.delivered q there others t other))
         ]
-        ∙ ap (λ (lists : List (Buffer Request)). length (made_by p.ordered lists t)) (sym is);
+        ∙ ap (λ (lists : List (Buffer Request)). length (requests_of_tile p.ordered lists t)) (sym is);
   }
 
   -- the interface of its tile has made one more
   pub inject_seen : (unordered : List (Buffer Request)) (made : List ℕ) → unordered ≡ more
       → with_interface (record (network_of p) { copies = routers.copies }) q.source
-      (record (interface_of p.windows.windows.posts p.ordered p.unordered p.delivered q.source) { made = made_by p.ordered p.unordered q.source ++ q ∷ [] })
+      (record (interface_of p.windows.windows.posts p.ordered p.unordered p.delivered q.source) { made = requests_of_tile p.ordered p.unordered q.source ++ q ∷ [] })
       ≡ network_of (record p { routers = routers; unordered = unordered; made = made })
   inject_seen unordered made is =
       let f = interface_of p.windows.windows.posts p.ordered p.unordered p.delivered in
       let g = interface_of p.windows.windows.posts p.ordered more p.delivered in
       let n = tile_count p.chip in
-      let own = made_by-own p.chip p.routers.copies routers.copies p.windows.windows p.ordered p.unordered more p.delivered q there others in
-      let away = made_by-others p.chip p.routers.copies routers.copies p.windows.windows p.ordered p.unordered more p.delivered q there others in
+      let own = requests_of_tile-own p.chip p.routers.copies routers.copies p.windows.windows p.ordered p.unordered more p.delivered q there others in
+      let away = requests_of_tile-others p.chip p.routers.copies routers.copies p.windows.windows p.ordered p.unordered more p.delivered q there others in
       ap (λ (interfaces : List Interface). record { copies = routers.copies; windows = p.windows.windows; ordered = p.ordered; interfaces = interfaces })
       (ap (λ (rs : List Request). set (map f (range_with_len 0 n)) q.source (record { made = rs; posted = (f q.source).posted; delivered = (f q.source).delivered })) (sym own)
       ∙ other_at f n g q.source inside (λ u within other. ap (λ (rs : List Request). record { made = rs; posted = (f u).posted; delivered = (f u).delivered }) (away u other))

@@ -13,22 +13,22 @@ use Rattle.order_tracker.specs.Order.{order_from, order, expansion}
 use Rattle.order_tracker.specs.Tracker.{TrackerState}
 use Rattle.chip_model.specs.NetworkShape.{WindowsFit}
 use Rattle.chip_model.specs.Chip.{Chip, tile_count}
-use Rattle.chip_model.specs.Windows.{Windows, posted, ticked, is_last_tick, window_closed}
+use Rattle.chip_model.specs.Windows.{Windows, after_post, after_tick, is_last_tick, window_closed}
 use Rattle.chip_model.specs.Copies.{Name}
-use Rattle.chip_model.specs.OrderedNetwork.{expected_behind}
+use Rattle.chip_model.specs.OrderedNetwork.{expected_at_next_hop}
 use Rattle.chip_model.specs.CopiesOwed.{OwesSame, NoneComes, ReservesExpected}
 use Rattle.router_xy.specs.RequestNetwork.{RequestNetwork}
 use Rattle.window_core.specs.Windows.{WindowsState, SameSizes}
 use Rattle.net_iface.specs.Unordered.{unordered_of, lowest_of, LoseLowest}
-use Rattle.net_iface.specs.Parts.{Parts, network_of, AreSized, IsFollowing, IsAccounted, AreKept, made_by}
+use Rattle.net_iface.specs.Parts.{Parts, network_of, AreSized, IsFollowing, IsAccounted, AreKept, requests_of_tile}
 use Rattle.net_iface.proofs.Steps.{post_is, merge_is}
 use Rattle.net_iface.proofs.Closings.{IsAccounted-close, made_same}
 use Rattle.net_iface.proofs.Orders.{order_from-append}
 use Rattle.net_iface.proofs.Places.{item_at}
 use Rattle.net_iface.proofs.Room.{length-ordered}
-use Rattle.net_iface.proofs.Turns.{expansion_le}
+use Rattle.net_iface.proofs.Priorities.{expansion_le}
 use Rattle.net_iface.proofs.Accounts.{IsAccounted-hop, IsAccounted-post, IsAccounted-windows}
-use Rattle.net_iface.proofs.Entries.{expected_behind_is_there}
+use Rattle.net_iface.proofs.Entries.{expected_at_next_hop_is_there}
 
 -- other routers of the same sizes
 sized_routers : (p : Parts) (routers : RequestNetwork) → routers.grid ≡ p.routers.grid → routers.vcs ≡ p.routers.vcs → AreSized p → AreSized (record p { routers = routers })
@@ -77,7 +77,7 @@ following_windows chip w new delivered t tracker taken closed following = record
   follows = rw (taken, closed) following.follows;
 }
 
-pub AreKept-post : (p : Parts) (windows : WindowsState) (t : ℕ) → SameSizes p.windows windows → posted p.windows.windows t ≡ Some windows.windows → 0 < length (unordered_of p.unordered t) → AreKept p → AreKept (record p { windows = windows })
+pub AreKept-post : (p : Parts) (windows : WindowsState) (t : ℕ) → SameSizes p.windows windows → after_post p.windows.windows t ≡ Some windows.windows → 0 < length (unordered_of p.unordered t) → AreKept p → AreKept (record p { windows = windows })
 AreKept-post p windows t same posts some kept =
     let post = post_is p.windows.windows t windows.windows posts in
     record {
@@ -92,12 +92,12 @@ AreKept-post p windows t same posts some kept =
     }
 
 pub AreKept-hop : (p : Parts) (routers : RequestNetwork) (r : ℕ) (out : Port) (expected : Option Name) → routers.grid ≡ p.routers.grid → routers.vcs ≡ p.routers.vcs
-    → expected ≡ expected_behind p.chip (network_of p) r out → OwesSame p.routers.grid p.routers.copies routers.copies → NoneComes p.routers.copies routers.copies
+    → expected ≡ expected_at_next_hop p.chip (network_of p) r out → OwesSame p.routers.grid p.routers.copies routers.copies → NoneComes p.routers.copies routers.copies
     → ReservesExpected p.routers.grid p.routers.vcs r out expected p.routers.copies routers.copies → AreKept p → AreKept (record p { routers = routers })
 AreKept-hop p routers r out expected grid vcs behind owes comes reserves kept = record {
   sizes = sized_routers p routers grid vcs kept.sizes;
   accounted =
-      IsAccounted-hop p.chip p.routers.copies routers.copies p.windows.windows p.ordered p.unordered p.delivered r out expected (expected_behind_is_there p r out expected kept behind)
+      IsAccounted-hop p.chip p.routers.copies routers.copies p.windows.windows p.ordered p.unordered p.delivered r out expected (expected_at_next_hop_is_there p r out expected kept behind)
       (rw kept.sizes.grid at owes) comes (rw (kept.sizes.grid, kept.sizes.vcs) at reserves) kept.accounted;
   trackers = kept.trackers;
   capacities = kept.capacities;
@@ -105,7 +105,7 @@ AreKept-hop p routers r out expected grid vcs behind owes comes reserves kept = 
 }
 
 -- a tick that does not end the window
-pub AreKept-merge : (p : Parts) (windows : WindowsState) → SameSizes p.windows windows → ticked p.windows.ticks p.windows.windows ≡ Some windows.windows → is_last_tick p.windows.ticks p.windows.windows ≡ false
+pub AreKept-merge : (p : Parts) (windows : WindowsState) → SameSizes p.windows windows → after_tick p.windows.ticks p.windows.windows ≡ Some windows.windows → is_last_tick p.windows.ticks p.windows.windows ≡ false
     → AreKept p → AreKept (record p { windows = windows })
 AreKept-merge p windows same ticks other kept =
     let merged = merge_is p.windows.ticks p.windows.windows windows.windows ticks other in
@@ -175,5 +175,5 @@ AreKept-close p windows ordered unordered same closes fit room lose is kept =
       counts = λ t inside.
           kept.counts t inside
           ∙ ap length (sym (made_same p.chip p.routers.copies w p.ordered p.unordered unordered p.delivered lose kept.accounted kept.sizes.some kept.sizes.unordered t inside))
-          ∙ ap (λ (rs : List Request). length (made_by rs unordered t)) (sym is);
+          ∙ ap (λ (rs : List Request). length (requests_of_tile rs unordered t)) (sym is);
     }

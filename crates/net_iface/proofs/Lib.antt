@@ -23,7 +23,7 @@ pub mod Posts
 pub mod Room
 pub mod Steps
 pub mod Taken
-pub mod Turns
+pub mod Priorities
 pub mod Views
 pub mod Binds
 pub mod Moving

@@ -7,9 +7,9 @@ use Rattle.std.proofs.lemmas.Option.{slice_get_within, get_or_from_slice_get}
 use Rattle.mesh_gen.specs.declared.request.Request.{Request}
 use Rattle.mesh_gen.specs.declared.port.Port.{Port}
 use Rattle.chip_model.specs.Chip.{Chip}
-use Rattle.chip_model.specs.Windows.{Windows, taken_by}
-use Rattle.chip_model.specs.Copies.{hopped, served}
-use Rattle.chip_model.specs.OrderedNetwork.{OrderedNetwork, Interface, with_interface, vector_taken, copy_hopped, delivered_next, expected_at, expected_behind}
+use Rattle.chip_model.specs.Windows.{Windows, after_take}
+use Rattle.chip_model.specs.Copies.{after_hop, after_serve}
+use Rattle.chip_model.specs.OrderedNetwork.{OrderedNetwork, Interface, with_interface, after_vector_take, after_copy_hop, after_delivery, expected_at, expected_at_next_hop}
 use Rattle.chip_model.specs.CopiesOwed.{channel_count}
 use Rattle.router_xy.specs.RequestNetwork.{arrived}
 use Rattle.chip_model.specs.NetworkFits.{NetworkFits}
@@ -29,8 +29,8 @@ rises f xs t x y there more =
 abbrev Rises : Windows → Windows → Type 0
 Rises old new = sum_by (λ taken. taken) new.taken ≡ sum_by (λ taken. taken) old.taken + 1
 
-taken_rises : (w new : Windows) (t : ℕ) → taken_by w t ≡ Some new → Rises w new
-unfolding taken_by
+taken_rises : (w new : Windows) (t : ℕ) → after_take w t ≡ Some new → Rises w new
+unfolding after_take
 taken_rises w new t =
     bind_eq (Rises w) (slice_get w.taken t) _
     (λ count there last done. bind (Rises w) (slice_get w.closed count) _
@@ -40,28 +40,28 @@ taken_rises w new t =
 abbrev pub OneMove : OrderedNetwork → OrderedNetwork → Type 0
 OneMove old new = moves_done new ≡ moves_done old + 1
 
-pub take_moves : (net new : OrderedNetwork) (t : ℕ) → vector_taken net t ≡ Some new → OneMove net new
-unfolding vector_taken moves_done
+pub take_moves : (net new : OrderedNetwork) (t : ℕ) → after_vector_take net t ≡ Some new → OneMove net new
+unfolding after_vector_take moves_done
 take_moves net new t =
-    bind_eq (OneMove net) (taken_by net.windows t) _
+    bind_eq (OneMove net) (after_take net.windows t) _
     (λ windows takes n is. made (OneMove net) (record net { windows = windows }) n (let more = taken_rises net.windows windows t takes in omega arith) is)
     new
 
 -- ---- a hop, which brings one more copy to a tile
-pub hop_moves : (chip : Chip) (net new : OrderedNetwork) (r : ℕ) (port : Port) (slot : ℕ) (out : Port) → copy_hopped chip net r port slot out ≡ Some new → arrived new.copies ≡ arrived net.copies + 1 → OneMove net new
-unfolding copy_hopped moves_done
+pub hop_moves : (chip : Chip) (net new : OrderedNetwork) (r : ℕ) (port : Port) (slot : ℕ) (out : Port) → after_copy_hop chip net r port slot out ≡ Some new → arrived new.copies ≡ arrived net.copies + 1 → OneMove net new
+unfolding after_copy_hop moves_done
 hop_moves chip net new r port slot out =
-    bind (λ (new : OrderedNetwork). arrived new.copies ≡ arrived net.copies + 1 → OneMove net new) (hopped chip.grid net.copies r port slot out (expected_behind chip net r out)) _
+    bind (λ (new : OrderedNetwork). arrived new.copies ≡ arrived net.copies + 1 → OneMove net new) (after_hop chip.grid net.copies r port slot out (expected_at_next_hop chip net r out)) _
     (λ copies n is. made (λ (new : OrderedNetwork). arrived new.copies ≡ arrived net.copies + 1 → OneMove net new) (record net { copies = copies }) n (λ more. omega arith) is)
     new
 
 -- ---- a delivery, which takes one away
-pub delivery_moves : (chip : Chip) (net new : OrderedNetwork) (t : ℕ) (q : Request) → delivered_next chip net t ≡ Some (q, new) → arrived new.copies + 1 ≡ arrived net.copies → OneMove net new
-unfolding delivered_next moves_done
+pub delivery_moves : (chip : Chip) (net new : OrderedNetwork) (t : ℕ) (q : Request) → after_delivery chip net t ≡ Some (q, new) → arrived new.copies + 1 ≡ arrived net.copies → OneMove net new
+unfolding after_delivery moves_done
 delivery_moves chip net new t q =
     bind_eq (Delivers net) (slice_get net.interfaces t) _
     (λ interface there last done. bind (Delivers net) (expected_at chip net t) _
-    (λ name last done. bind (Delivers net) (served net.copies t name) _
+    (λ name last done. bind (Delivers net) (after_serve net.copies t name) _
     (λ out last is. made (Delivers net) (out.0, with_interface (record net { copies = out.1 }) t (record interface { delivered = interface.delivered + 1 })) last
     (λ fewer. let more = rises (λ (interface : Interface). interface.delivered) net.interfaces t interface (record interface { delivered = interface.delivered + 1 }) there refl in omega arith) is)
     last done) last done)

@@ -56,7 +56,7 @@ at_kept : (b : Bool) (first : Request) (rest : List Request) (n m : ℕ) (q : Re
 at_kept true first rest n m q is there = slice_get-append_right (first ∷ []) rest m n (omega arith) ∙ there
 at_kept false first rest n m q is there = ap (slice_get rest) (omega arith) ∙ there
 
--- the request at a place is that of its source behind those before
+-- the request at a place is that of its source after those before
 pub request_at : (t : ℕ) (requests : List Request) (place : ℕ) (q : Request) → slice_get requests place ≡ Some q → q.source ≡ t
     → slice_get (requests_of t requests) (count_by_tile t (take place requests)) ≡ Some q
 request_at t [] place q is source = cc

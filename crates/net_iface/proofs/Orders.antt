@@ -10,7 +10,7 @@ use Rattle.mesh_gen.specs.TileSet.{has_tile, is_among}
 use Rattle.mesh_gen.proofs.TileSets.{has_tile-none, same_sets, is_among-filter}
 use Rattle.order_tracker.specs.Order.{upwards, round_from, expansion, order_from, order}
 use Rattle.order_tracker.specs.Tracker.{IsWindow}
-use Rattle.order_tracker.proofs.Turns.{has_tile-below}
+use Rattle.order_tracker.proofs.Priorities.{has_tile-below}
 
 -- ---- windows one after another
 

@@ -6,17 +6,17 @@ use Rattle.std.proofs.lemmas.Bool.{cases_lt, and_parts, not-true, lt-ltb, le-ltb
 use Rattle.mesh_gen.specs.TileSet.{has_tile}
 use Rattle.mesh_gen.proofs.TileSets.{has_tile-or, has_tile-one}
 use Rattle.chip_model.specs.Chip.{tile_count}
-use Rattle.chip_model.specs.Windows.{Windows, may_post, posted}
-use Rattle.chip_model.specs.OrderedNetwork.{Interface, with_interface, request_posted}
+use Rattle.chip_model.specs.Windows.{Windows, may_post, after_post}
+use Rattle.chip_model.specs.OrderedNetwork.{Interface, with_interface, after_request_post}
 use Rattle.chip_model.specs.Bookkeeping.{count_by_tile}
 use Rattle.window_core.specs.Windows.{WindowsState}
 use Rattle.chip_model.specs.NetworkFits.{requests_of}
 use Rattle.net_iface.specs.Unordered.{unordered_of}
-use Rattle.net_iface.specs.Parts.{Parts, made_by, interface_of, network_of, AreSized}
+use Rattle.net_iface.specs.Parts.{Parts, requests_of_tile, interface_of, network_of, AreSized}
 use Rattle.net_iface.proofs.Named.{length-requests_of}
 use Rattle.net_iface.proofs.Interfaces.{as_interface, other_at}
 use Rattle.net_iface.proofs.Expected.{interface_at, no_interface}
-use Rattle.net_iface.proofs.Steps.{post_is, request_posted-no_tile, request_posted-all, request_posted-refused, is_some-request_posted}
+use Rattle.net_iface.proofs.Steps.{post_is, after_request_post-no_tile, after_request_post-all, after_request_post-refused, is_some-after_request_post}
 
 -- a tile that may post is one, and has not posted
 pub record MayPost (w : Windows) (t : ℕ) : Type 0 where
@@ -29,35 +29,35 @@ may_parts w t may =
     let second = and_parts (w.phase == 0) (nat_lt t (length w.taken)) first.0 in
     record { tile = ltb-true t (length w.taken) second.1; fresh = not-true (has_tile w.posts t) first.1 }
 
-length-made : (p : Parts) (t : ℕ) → length (made_by p.ordered p.unordered t) ≡ count_by_tile t p.ordered + length (unordered_of p.unordered t)
+length-made : (p : Parts) (t : ℕ) → length (requests_of_tile p.ordered p.unordered t) ≡ count_by_tile t p.ordered + length (unordered_of p.unordered t)
 length-made p t = omega (arith, length-append (requests_of t p.ordered) (unordered_of p.unordered t), length-requests_of t p.ordered)
 
-all_posted : (p : Parts) (t : ℕ) (b : Bool) → length (unordered_of p.unordered t) ≡ 0 → nat_lt (count_by_tile t p.ordered + cond b 1 0) (length (made_by p.ordered p.unordered t)) ≡ false
-all_posted p t b none = le-ltb (count_by_tile t p.ordered + cond b 1 0) (length (made_by p.ordered p.unordered t)) (omega (arith, length-made p t))
+all_posted : (p : Parts) (t : ℕ) (b : Bool) → length (unordered_of p.unordered t) ≡ 0 → nat_lt (count_by_tile t p.ordered + cond b 1 0) (length (requests_of_tile p.ordered p.unordered t)) ≡ false
+all_posted p t b none = le-ltb (count_by_tile t p.ordered + cond b 1 0) (length (requests_of_tile p.ordered p.unordered t)) (omega (arith, length-made p t))
 
 -- with no request that is not ordered there is nothing to post for
-pub nothing_to_post : (p : Parts) (t : ℕ) → length (unordered_of p.unordered t) ≡ 0 → request_posted (network_of p) t ≡ None
+pub nothing_to_post : (p : Parts) (t : ℕ) → length (unordered_of p.unordered t) ≡ 0 → after_request_post (network_of p) t ≡ None
 nothing_to_post p t none = elim (cases_lt t (tile_count p.chip)) [
   | inl inside ↦
-      request_posted-all (network_of p) t (interface_of p.windows.windows.posts p.ordered p.unordered p.delivered t) (interface_at p t inside)
+      after_request_post-all (network_of p) t (interface_of p.windows.windows.posts p.ordered p.unordered p.delivered t) (interface_at p t inside)
       (all_posted p t (has_tile p.windows.windows.posts t) none)
-  | inr past ↦ request_posted-no_tile (network_of p) t (no_interface p t past)
+  | inr past ↦ after_request_post-no_tile (network_of p) t (no_interface p t past)
 ]
 
 -- and else there is, where the tile has not posted
 pub one_to_post : (p : Parts) (t : ℕ) → 0 < length (unordered_of p.unordered t) → has_tile p.windows.windows.posts t ≡ false
-    → nat_lt (count_by_tile t p.ordered + cond (has_tile p.windows.windows.posts t) 1 0) (length (made_by p.ordered p.unordered t)) ≡ true
+    → nat_lt (count_by_tile t p.ordered + cond (has_tile p.windows.windows.posts t) 1 0) (length (requests_of_tile p.ordered p.unordered t)) ≡ true
 one_to_post p t some fresh =
-    rw fresh (lt-ltb (count_by_tile t p.ordered + 0) (length (made_by p.ordered p.unordered t)) (omega (arith, length-made p t)))
+    rw fresh (lt-ltb (count_by_tile t p.ordered + 0) (length (requests_of_tile p.ordered p.unordered t)) (omega (arith, length-made p t)))
 
-test_by : (p : Parts) (t : ℕ) (o : Option Windows) → posted p.windows.windows t ≡ o → AreSized p → 0 < length (unordered_of p.unordered t) → is_some (posted p.windows.windows t) ≡ is_some (request_posted (network_of p) t)
-test_by p t None is sizes some = ap is_some is ∙ sym (ap is_some (request_posted-refused (network_of p) t is))
+test_by : (p : Parts) (t : ℕ) (o : Option Windows) → after_post p.windows.windows t ≡ o → AreSized p → 0 < length (unordered_of p.unordered t) → is_some (after_post p.windows.windows t) ≡ is_some (after_request_post (network_of p) t)
+test_by p t None is sizes some = ap is_some is ∙ sym (ap is_some (after_request_post-refused (network_of p) t is))
 test_by p t (Some w) is sizes some =
     let may = may_parts p.windows.windows t (post_is p.windows.windows t w is).may in
-    sym (is_some-request_posted (network_of p) t (interface_of p.windows.windows.posts p.ordered p.unordered p.delivered t) (interface_at p t (omega (arith, may.tile, sizes.taken))) (one_to_post p t some may.fresh))
+    sym (is_some-after_request_post (network_of p) t (interface_of p.windows.windows.posts p.ordered p.unordered p.delivered t) (interface_at p t (omega (arith, may.tile, sizes.taken))) (one_to_post p t some may.fresh))
 
-pub post_test : (p : Parts) (t : ℕ) → AreSized p → 0 < length (unordered_of p.unordered t) → is_some (posted p.windows.windows t) ≡ is_some (request_posted (network_of p) t)
-post_test p t sizes some = test_by p t (posted p.windows.windows t) refl sizes some
+pub post_test : (p : Parts) (t : ℕ) → AreSized p → 0 < length (unordered_of p.unordered t) → is_some (after_post p.windows.windows t) ≡ is_some (after_request_post (network_of p) t)
+post_test p t sizes some = test_by p t (after_post p.windows.windows t) refl sizes some
 
 -- a list that is not empty
 pub some_left : (n : ℕ) (b : Bool) → b ≡ false → b ≡ (n == 0) → 0 < n
@@ -84,10 +84,10 @@ posts_once p new t inside fresh is =
     let away : has_tile new.windows.posts u ≡ has_tile p.windows.windows.posts u =
     ap (λ (set : ℕ). has_tile set u) is ∙ has_tile-or (2 ^ t) p.windows.windows.posts u ∙ ap (λ (b : Bool). b || has_tile p.windows.windows.posts u) (has_tile-one t u ∙ ne_eqb t u (λ e. other (sym e)))
     in
-    ap (λ (b : Bool). as_interface (made_by p.ordered p.unordered u) (count_by_tile u p.ordered + cond b 1 0) (slice_index p.delivered u)) away
+    ap (λ (b : Bool). as_interface (requests_of_tile p.ordered p.unordered u) (count_by_tile u p.ordered + cond b 1 0) (slice_index p.delivered u)) away
     in
-    let own : as_interface (made_by p.ordered p.unordered t) (count_by_tile t p.ordered + cond (has_tile p.windows.windows.posts t) 1 0 + 1) (slice_index p.delivered t) ≡ g t =
-    ap (λ (k : ℕ). as_interface (made_by p.ordered p.unordered t) k (slice_index p.delivered t)) (counted (count_by_tile t p.ordered) (has_tile p.windows.windows.posts t) (has_tile new.windows.posts t) fresh here)
+    let own : as_interface (requests_of_tile p.ordered p.unordered t) (count_by_tile t p.ordered + cond (has_tile p.windows.windows.posts t) 1 0 + 1) (slice_index p.delivered t) ≡ g t =
+    ap (λ (k : ℕ). as_interface (requests_of_tile p.ordered p.unordered t) k (slice_index p.delivered t)) (counted (count_by_tile t p.ordered) (has_tile p.windows.windows.posts t) (has_tile new.windows.posts t) fresh here)
     in
     ap (λ (interfaces : List Interface). record { copies = p.routers.copies; windows = new.windows; ordered = p.ordered; interfaces = interfaces })
     (ap (set (map f (range_with_len 0 n)) t) own ∙ other_at f n g t inside others)

@@ -9,11 +9,11 @@ use Rattle.mesh_gen.proofs.TileSets.{AllByRecursion-push}
 use Rattle.order_tracker.specs.Tracker.{TrackerState, IsWindow}
 use Rattle.order_tracker.proofs.Sequence.{Follows-push}
 use Rattle.chip_model.specs.Chip.{tile_count}
-use Rattle.chip_model.specs.Windows.{Windows, next_vector, taken_by}
+use Rattle.chip_model.specs.Windows.{Windows, next_vector, after_take}
 use Rattle.chip_model.specs.Copies.{Name}
 use Rattle.chip_model.specs.CopiesOwed.{owing, channel_count}
 use Rattle.chip_model.specs.NetworkShape.{WindowsFit}
-use Rattle.window_core.proofs.Steps.{IsNext, next_from, taken_by-some}
+use Rattle.window_core.proofs.Steps.{IsNext, next_from, after_take-some}
 use Rattle.net_iface.specs.Parts.{Parts, IsFollowing, AreKept}
 use Rattle.net_iface.specs.Trackers.{MayTakeIn, with_window}
 use Rattle.net_iface.proofs.Orders.{each_window}
@@ -34,10 +34,10 @@ next_of_tile : (w : Windows) (t vector : ℕ) → next_vector w t ≡ Some vecto
 unfolding next_vector
 next_of_tile w t vector next = next_from w.taken w.closed t vector next
 
-pub take_is : (w : Windows) (t vector : ℕ) (new : Windows) → taken_by w t ≡ Some new → next_vector w t ≡ Some vector → IsTake w t vector new
+pub take_is : (w : Windows) (t vector : ℕ) (new : Windows) → after_take w t ≡ Some new → next_vector w t ≡ Some vector → IsTake w t vector new
 take_is w t vector new takes next =
     let one = next_of_tile w t vector next in
-    let step = taken_by-some w t vector one in
+    let step = after_take-some w t vector one in
     record { count = one.at; counted = one.counted; there = one.there; is = cc }
 
 module _ (p : Parts) (t vector : ℕ) (new : Windows) (kept : AreKept p) (one : IsTake p.windows.windows t vector new) (window : IsWindow (tile_count p.chip) vector)

@@ -9,8 +9,8 @@ use Rattle.mesh_gen.specs.TileSet.{has_tile}
 use Rattle.mesh_gen.proofs.TileSets.{has_tile-none}
 use Rattle.order_tracker.specs.Order.{order}
 use Rattle.chip_model.specs.Chip.{Chip, tile_count}
-use Rattle.chip_model.specs.Windows.{Windows, window_closed, ticked, is_last_tick}
-use Rattle.chip_model.specs.OrderedNetwork.{OrderedNetwork, Interface, sources, lowest_unordered, ordered_by_window, network_ticked}
+use Rattle.chip_model.specs.Windows.{Windows, window_closed, after_tick, is_last_tick}
+use Rattle.chip_model.specs.OrderedNetwork.{OrderedNetwork, Interface, sources, lowest_unordered, ordered_by_window, after_network_tick}
 use Rattle.chip_model.specs.Bookkeeping.{count_by_tile}
 use Rattle.chip_model.specs.NetworkFits.{requests_of}
 use Rattle.net_iface.proofs.Binds.{bind_eq, made}
@@ -18,7 +18,7 @@ use Rattle.net_iface.proofs.Named.{length-requests_of, requests_of-append, count
 use Rattle.net_iface.proofs.Orders.{order-push}
 use Rattle.net_iface.proofs.Places.{item_at}
 use Rattle.net_iface.proofs.Steps.{merge_is, close_is}
-use Rattle.net_iface.proofs.Turns.{ordered_in, requests_of-round, turn_taken, turn_passed, sources-expansion}
+use Rattle.net_iface.proofs.Priorities.{ordered_in, requests_of-round, ordered_taken, ordered_passed, sources-expansion}
 use Rattle.net_iface.proofs.Accords.{Agrees, Accords, Keeps, carried}
 
 module _ (chip : Chip) (net : OrderedNetwork) (accords : Accords chip net) (some : 0 < tile_count chip) where
@@ -74,7 +74,7 @@ module _ (chip : Chip) (net : OrderedNetwork) (accords : Accords chip net) (some
         | inl posted ↦
             let one : ◌≡◌ {A = ℕ} (cond (has_tile posts t) 1 0) 1 = ap (λ (b : Bool). cond b 1 0) posted in
             let (q, is, source) = lowest_there t inside posted in
-            let own : requests_of t added ≡ q ∷ [] = added_of t inside ∙ turn_taken (lowest_unordered net) (has_tile posts) t q posted is source in
+            let own : requests_of t added ≡ q ∷ [] = added_of t inside ∙ ordered_taken (lowest_unordered net) (has_tile posts) t q posted is source in
             let count : count_by_tile t (net.ordered ++ added) ≡ count_by_tile t net.ordered + 1 = omega (arith, grows, counts, ap length own) in
             let next : slice_get interface.made (count_by_tile t net.ordered) ≡ Some q = sym (lowest_at t interface there) ∙ is in
             record {
@@ -90,7 +90,7 @@ module _ (chip : Chip) (net : OrderedNetwork) (accords : Accords chip net) (some
             }
         | inr away ↦
             let none_posted : ◌≡◌ {A = ℕ} (cond (has_tile posts t) 1 0) 0 = ap (λ (b : Bool). cond b 1 0) away in
-            let own : requests_of t added ≡ [] = added_of t inside ∙ turn_passed (lowest_unordered net) (has_tile posts) t away in
+            let own : requests_of t added ≡ [] = added_of t inside ∙ ordered_passed (lowest_unordered net) (has_tile posts) t away in
             let count : count_by_tile t (net.ordered ++ added) ≡ count_by_tile t net.ordered = omega (arith, grows, counts, ap length own) in
             record {
               within = omega (arith, within, longer);
@@ -107,12 +107,12 @@ module _ (chip : Chip) (net : OrderedNetwork) (accords : Accords chip net) (some
     none = record { more = added; grows = refl; same = λ t interface there. (interface, there, refl) };
   }
 
-  pub keeps-tick : (new : OrderedNetwork) → network_ticked chip net ≡ Some new → Keeps chip net new
-  unfolding network_ticked
+  pub keeps-tick : (new : OrderedNetwork) → after_network_tick chip net ≡ Some new → Keeps chip net new
+  unfolding after_network_tick
   keeps-tick new is =
-      bind_eq (Keeps chip net) (ticked chip.window net.windows) _ (λ windows tick last done. by windows tick (is_last_tick chip.window net.windows) refl last done) new is
+      bind_eq (Keeps chip net) (after_tick chip.window net.windows) _ (λ windows tick last done. by windows tick (is_last_tick chip.window net.windows) refl last done) new is
     where
-      by : (windows : Windows) → ticked chip.window net.windows ≡ Some windows → (ends : Bool) → is_last_tick chip.window net.windows ≡ ends → (last : OrderedNetwork)
+      by : (windows : Windows) → after_tick chip.window net.windows ≡ Some windows → (ends : Bool) → is_last_tick chip.window net.windows ≡ ends → (last : OrderedNetwork)
           → ◌≡◌ {A = Option OrderedNetwork} (Some (record net { windows = windows; ordered = cond ends (net.ordered ++ added) net.ordered })) (Some last) → Keeps chip net last
       by windows tick true ends last =
           made (Keeps chip net) _ last (subst (λ (w : Windows). Keeps chip net (record net { windows = w; ordered = net.ordered ++ added })) (close_is chip.window net.windows windows tick ends) closes)

@@ -5,7 +5,7 @@ use Rattle.mesh_gen.specs.declared.kind.Kind.{Kind}
 use Rattle.mesh_gen.specs.declared.port.Port.{Port}
 use Rattle.chip_model.specs.Partial.{◌>>=◌}
 use Rattle.chip_model.specs.Chip.{Chip, tile_count}
-use Rattle.chip_model.specs.OrderedNetwork.{OrderedNetwork, opening_network, injected, request_posted, network_ticked, vector_taken, copy_hopped, delivered_next}
+use Rattle.chip_model.specs.OrderedNetwork.{OrderedNetwork, opening_network, after_inject, after_request_post, after_network_tick, after_vector_take, after_copy_hop, after_delivery}
 use Rattle.net_iface.specs.OrderedNet.{delivered_by}
 
 -- a call: a tile makes a request, or posts; a tick passes; a tile takes a vector; a copy leaves a channel by a side; or a
@@ -28,13 +28,13 @@ opening_history chip = record { network = opening_network chip; deliveries = [] 
 
 -- the history after a call, where it is not refused
 unfoldable pub called : Chip → History → NetworkCall → Option History
-called chip h (Inject t kind line) = injected chip h.network t kind line >>= (λ net. Some (record h { network = net }))
-called chip h (Post t) = request_posted h.network t >>= (λ net. Some (record h { network = net }))
-called chip h Tick = network_ticked chip h.network >>= (λ net. Some (record h { network = net }))
-called chip h (Take t) = vector_taken h.network t >>= (λ net. Some (record h { network = net }))
-called chip h (Hop r port slot out) = copy_hopped chip h.network r port slot out >>= (λ net. Some (record h { network = net }))
+called chip h (Inject t kind line) = after_inject chip h.network t kind line >>= (λ net. Some (record h { network = net }))
+called chip h (Post t) = after_request_post h.network t >>= (λ net. Some (record h { network = net }))
+called chip h Tick = after_network_tick chip h.network >>= (λ net. Some (record h { network = net }))
+called chip h (Take t) = after_vector_take h.network t >>= (λ net. Some (record h { network = net }))
+called chip h (Hop r port slot out) = after_copy_hop chip h.network r port slot out >>= (λ net. Some (record h { network = net }))
 called chip h (Eject t) =
-    delivered_next chip h.network t >>= (λ out. Some (record { network = out.1; deliveries = h.deliveries ++ (t, out.0) ∷ [] }))
+    after_delivery chip h.network t >>= (λ out. Some (record { network = out.1; deliveries = h.deliveries ++ (t, out.0) ∷ [] }))
 
 -- the history after a list of calls, where none is refused
 unfoldable pub history_of : Chip → History → List NetworkCall → Option History

@@ -5,7 +5,7 @@ use Rattle.chip_model.specs.OrderedNetwork.{OrderedNetwork, Interface}
 use Rattle.chip_model.specs.Bookkeeping.{AreMadeBy, IsInOrder}
 use Rattle.chip_model.specs.NetworkFits.{requests_of}
 
--- its sources are the tiles of the closed windows in the order of their turn, the requests of each tile stand in it by
+-- its sources are the tiles of the closed windows by the rotating priority, the requests of each tile stand in it by
 -- their numbers from 0 on, and so each once, and no tile has delivered more than there are
 pub record IsOneOrder (chip : Chip) (net : OrderedNetwork) : Type 0 where
   pub in_order : IsInOrder chip net

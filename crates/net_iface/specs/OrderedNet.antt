@@ -13,8 +13,8 @@ pub record NetworkState : Type 0 where
   pub room : ℕ
 
 -- before any step
-abbrev pub opening : Chip → ℕ → NetworkState
-opening chip room = record { chip = chip; network = opening_network chip; room = room }
+abbrev pub opening_state : Chip → ℕ → NetworkState
+opening_state chip room = record { chip = chip; network = opening_network chip; room = room }
 
 -- what no call changes
 pub record SameSizes (old new : NetworkState) : Type 0 where

@@ -19,7 +19,7 @@ use Rattle.window_core.specs.Windows.{WindowsState}
 use Rattle.router_xy.specs.RequestNetwork.{RequestNetwork}
 use Rattle.chip_model.specs.NetworkFits.{requests_of}
 use Rattle.net_iface.specs.OrderedNet.{NetworkState}
-use Rattle.net_iface.specs.Unordered.{list_of, unordered_of}
+use Rattle.net_iface.specs.Unordered.{unordered_at, unordered_of}
 
 -- the chip, its routers and windows; of each tile its tracker, the requests that are not ordered yet, how many requests it
 -- made and how many it delivered; the requests that are ordered; and how many there may be
@@ -35,13 +35,13 @@ pub record Parts : Type 0 where
   pub room : ℕ
 
 -- all requests of a tile
-abbrev pub made_by : List Request → List (Buffer Request) → ℕ → List Request
-made_by ordered unordered t = requests_of t ordered ++ unordered_of unordered t
+abbrev pub requests_of_tile : List Request → List (Buffer Request) → ℕ → List Request
+requests_of_tile ordered unordered t = requests_of t ordered ++ unordered_of unordered t
 
 -- a tile's interface: it has posted for its ordered requests, and for one more where it posted in the open window
 abbrev pub interface_of : ℕ → List Request → List (Buffer Request) → List ℕ → ℕ → Interface
 interface_of posts ordered unordered delivered t = record {
-  made = made_by ordered unordered t;
+  made = requests_of_tile ordered unordered t;
   posted = count_by_tile t ordered + (if has_tile posts t then 1 else 0);
   delivered = slice_index delivered t;
 }
@@ -57,8 +57,8 @@ network_of p = record {
   interfaces = interfaces_of (tile_count p.chip) p.windows.windows.posts p.ordered p.unordered p.delivered;
 }
 
-abbrev pub state_of : Parts → NetworkState
-state_of p = record { chip = p.chip; network = network_of p; room = p.room }
+abbrev pub network_of_parts : Parts → NetworkState
+network_of_parts p = record { chip = p.chip; network = network_of p; room = p.room }
 
 -- the parts are of one chip, and each has a place for each tile
 pub record AreSized (p : Parts) : Type 0 where
@@ -95,16 +95,16 @@ pub record IsOrderedUpTo (ordered : List Request) (last : ℕ) (name : Name) : T
 -- a copy is of a request that its source made
 pub record IsOfMade (tiles : ℕ) (ordered : List Request) (unordered : List (Buffer Request)) (q : Request) : Type 0 where
   pub source : q.source < tiles
-  pub made : slice_get (made_by ordered unordered q.source) q.number ≡ Some q
+  pub made : slice_get (requests_of_tile ordered unordered q.source) q.number ≡ Some q
 
 -- what holds of the requests that were made, are ordered, and were delivered
 pub record IsAccounted (chip : Chip) (copies : Network NetCopy) (w : Windows) (ordered : List Request) (unordered : List (Buffer Request)) (delivered : List ℕ) : Type 0 where
-  pub made : (t : ℕ) → t < tile_count chip → AreMadeBy t (made_by ordered unordered t)
+  pub made : (t : ℕ) → t < tile_count chip → AreMadeBy t (requests_of_tile ordered unordered t)
   pub posted : (t : ℕ) → t < tile_count chip → has_tile w.posts t ≡ true → 0 < length (unordered_of unordered t)
   pub in_order : sources ordered ≡ order (tile_count chip) w.closed
   pub of_made : (router port slot : ℕ) (copy : NetCopy) → at copies router port slot ≡ Some copy → IsOfMade (tile_count chip) ordered unordered copy.request
   pub owed : (name : Name) (t : ℕ) → name.0 < tile_count chip → t < tile_count chip →
-      owing chip.grid copies name t + times_named name (take (slice_index delivered t) ordered) ≡ times_named name (made_by ordered unordered name.0)
+      owing chip.grid copies name t + times_named name (take (slice_index delivered t) ordered) ≡ times_named name (requests_of_tile ordered unordered name.0)
   pub reserved : (router port : ℕ) (copy : NetCopy) → router < tile_count chip → at copies router port chip.vcs ≡ Some copy →
       IsOrderedUpTo ordered (slice_index delivered router) (name_of copy.request)
 
@@ -113,5 +113,5 @@ pub record AreKept (p : Parts) : Type 0 where
   pub sizes : AreSized p
   pub accounted : IsAccounted p.chip p.routers.copies p.windows.windows p.ordered p.unordered p.delivered
   pub trackers : (t : ℕ) (tracker : TrackerState) → slice_get p.trackers t ≡ Some tracker → IsFollowing p.chip p.windows.windows p.delivered t tracker
-  pub capacities : (t : ℕ) → t < tile_count p.chip → (list_of p.unordered t).capacity ≡ channel_count p.chip
-  pub counts : (t : ℕ) → t < tile_count p.chip → slice_index p.made t ≡ length (made_by p.ordered p.unordered t)
+  pub capacities : (t : ℕ) → t < tile_count p.chip → (unordered_at p.unordered t).capacity ≡ channel_count p.chip
+  pub counts : (t : ℕ) → t < tile_count p.chip → slice_index p.made t ≡ length (requests_of_tile p.ordered p.unordered t)

@@ -1,7 +1,7 @@
 -- The trackers of all tiles.
 use Rattle.std.specs.Prelude.{◌≡◌, ◌≢◌, ℕ, ◌+◌, ◌^◌, ◌<◌, List, [], ◌∷◌, ◌++◌, length, Some, IsSome, IfSome, slice_get}
 use Rattle.std.specs.List.{All, AllByRecursion}
-use Rattle.order_tracker.specs.Tracker.{TrackerState, IsNew, IsWindow, Follows, next_of}
+use Rattle.order_tracker.specs.Tracker.{TrackerState, IsNew, IsWindow, Follows, next_request_of}
 
 -- a tracker that has seen no window
 pub record IsUnused (tiles room : ℕ) (tracker : TrackerState) : Type 0 where
@@ -25,11 +25,11 @@ with_window tracker vector = record tracker { windows = tracker.windows ++ vecto
 
 -- a tracker may pass over the request that comes next
 pub record MayPass (tracker : TrackerState) : Type 0 where
-  pub expected : IsSome (next_of tracker)
-  pub count : IfSome (next_of tracker) (λ entry. entry.1 + 1 < 2 ^ 31)
+  pub expected : IsSome (next_request_of tracker)
+  pub count : IfSome (next_request_of tracker) (λ entry. entry.1 + 1 < 2 ^ 31)
 
 -- a tracker has passed over one request
-pub record Passes (old new : TrackerState) : Type 0 where
+pub record PassesOver (old new : TrackerState) : Type 0 where
   pub tiles : new.tiles ≡ old.tiles
   pub room : new.room ≡ old.room
   pub sets : AllByRecursion (IsWindow new.tiles) new.windows
@@ -38,5 +38,5 @@ pub record Passes (old new : TrackerState) : Type 0 where
 -- the tracker of a tile has passed over one request, and every other is as it was
 pub record PassesAt (t : ℕ) (old new : List TrackerState) : Type 0 where
   pub count : length new ≡ length old
-  pub passed : (before after : TrackerState) → slice_get old t ≡ Some before → slice_get new t ≡ Some after → Passes before after
+  pub passed : (before after : TrackerState) → slice_get old t ≡ Some before → slice_get new t ≡ Some after → PassesOver before after
   pub others : (u : ℕ) → u ≢ t → slice_get new u ≡ slice_get old u

@@ -5,12 +5,12 @@ use Rattle.mesh_gen.specs.declared.request.Request.{Request}
 use Rattle.mesh_gen.specs.TileSet.{has_tile}
 
 -- the list of a tile, with its room
-abbrev pub list_of : List (Buffer Request) → ℕ → Buffer Request
-list_of lists t = slice_index_or lists t (buffer [] 0)
+abbrev pub unordered_at : List (Buffer Request) → ℕ → Buffer Request
+unordered_at lists t = slice_index_or lists t (buffer [] 0)
 
 -- its requests, and the first of them
 abbrev pub unordered_of : List (Buffer Request) → ℕ → List Request
-unordered_of lists t = (list_of lists t).items
+unordered_of lists t = (unordered_at lists t).items
 
 abbrev pub lowest_of : List (Buffer Request) → ℕ → Option Request
 lowest_of lists t = slice_get (unordered_of lists t) 0
@@ -25,6 +25,6 @@ without_first list = buffer (drop 1 list.items) list.capacity
 -- the tiles of a set from one tile on and below another have lost their first request, and every other has what it had
 pub record LoseLowest (from to tiles : ℕ) (old new : List (Buffer Request)) : Type 0 where
   pub count : length new ≡ length old
-  pub lost : (t : ℕ) → from ≤ t → t < to → has_tile tiles t ≡ true → list_of new t ≡ without_first (list_of old t)
-  pub left_out : (t : ℕ) → has_tile tiles t ≡ false → list_of new t ≡ list_of old t
-  pub outside : (t : ℕ) → (t < from) ⊎ (to ≤ t) → list_of new t ≡ list_of old t
+  pub lost : (t : ℕ) → from ≤ t → t < to → has_tile tiles t ≡ true → unordered_at new t ≡ without_first (unordered_at old t)
+  pub left_out : (t : ℕ) → has_tile tiles t ≡ false → unordered_at new t ≡ unordered_at old t
+  pub outside : (t : ℕ) → (t < from) ⊎ (to ≤ t) → unordered_at new t ≡ unordered_at old t

@@ -3,9 +3,9 @@ ghost use Rattle.std.specs.Bool.{OnTrue};
 ghost use Rattle.mesh_gen.specs.Limits.{IsFrom, most_tiles};
 ghost use Rattle.chip_model.specs.Chip.{chip_of_mesh, tile_count};
 ghost use Rattle.chip_model.specs.NetworkShape.{HasChannels, WindowsFit};
-ghost use Rattle.chip_model.specs.OrderedNetwork.{Interface, next_request, injected, request_posted, network_ticked, vector_taken, expected_at, expected_behind, copy_hopped, delivered_next};
+ghost use Rattle.chip_model.specs.OrderedNetwork.{Interface, next_request, after_inject, after_request_post, after_network_tick, after_vector_take, expected_at, expected_at_next_hop, after_copy_hop, after_delivery};
 ghost use Rattle.chip_model.specs.NetworkFits.{NetworkFits};
-ghost use Rattle.net_iface.specs.OrderedNet.{opening, SameSizes, delivered_counts, delivered_by, FewAreLeft};
+ghost use Rattle.net_iface.specs.OrderedNet.{opening_state, SameSizes, delivered_counts, delivered_by, FewAreLeft};
 ghost use Rattle.net_iface.specs.OneOrder.{IsOneOrder};
 ghost use Rattle.net_iface.specs.Moves.{moves_done, most_moves};
 
@@ -43,11 +43,11 @@ impl Model for OrderedNet {
     ghost use Rattle.std.specs.Vec.{vec_capacity};
     ghost use Rattle.chip_model.specs.Chip.{chip_of_mesh};
     ghost use Rattle.net_iface.specs.OrderedNet.{NetworkState};
-    ghost use Rattle.net_iface.specs.Parts.{state_of, AreKept};
+    ghost use Rattle.net_iface.specs.Parts.{network_of_parts, AreKept};
 
     ghost Value = { NetworkState };
 
-    ghost view = { λ net. state_of (record {
+    ghost view = { λ net. network_of_parts (record {
       chip = chip_of_mesh net.mesh;
       routers = net.routers;
       windows = net.windows;
@@ -76,7 +76,7 @@ impl OrderedNet {
     /// The network of a mesh before any step, with room for so many ordered requests. No other call takes memory.
     pub fn open(alloc: Global, mesh: &Mesh, room: u64) -> Result<OrderedNet, NoMemory>
         requires { room < 2 ^ 31 }
-        ensures { IfOk result (λ net. net ≡ opening (chip_of_mesh mesh.now) room) }
+        ensures { IfOk result (λ net. net ≡ opening_state (chip_of_mesh mesh.now) room) }
     {
         owed_laws();
         step_laws();
@@ -180,10 +180,10 @@ impl OrderedNet {
     /// The tile makes its next request, which enters its router. Refused exactly where it is no tile, or its router's
     /// local port has no free channel.
     pub fn inject(&mut self, t: u8, kind: Kind, line: u16) -> Result<Request, NoChannel>
-        ensures ok { OnOk result (injected self.old.chip self.old.network t kind line ≡ Some self.new.network) }
+        ensures ok { OnOk result (after_inject self.old.chip self.old.network t kind line ≡ Some self.new.network) }
         ensures request { IfOk result (λ q. (interface : Interface) → slice_get self.old.network.interfaces t ≡ Some interface
             → q ≡ next_request t interface kind line) }
-        ensures err { OnErr result (injected self.old.chip self.old.network t kind line ≡ None) }
+        ensures err { OnErr result (after_inject self.old.chip self.old.network t kind line ≡ None) }
         ensures kept { OnErr result (self.new ≡ self.old) }
         ensures sizes { SameSizes self.old self.new }
     {
@@ -202,8 +202,8 @@ impl OrderedNet {
     /// The tile posts in the open window for its first request that it has not posted. Refused exactly where it has none
     /// or may not post.
     pub fn post(&mut self, t: u8) -> Result<(), NotEnabled>
-        ensures ok { OnOk result (request_posted self.old.network t ≡ Some self.new.network) }
-        ensures err { OnErr result (request_posted self.old.network t ≡ None) }
+        ensures ok { OnOk result (after_request_post self.old.network t ≡ Some self.new.network) }
+        ensures err { OnErr result (after_request_post self.old.network t ≡ None) }
         ensures kept { OnErr result (self.new ≡ self.old) }
         ensures sizes { SameSizes self.old self.new }
     {
@@ -218,9 +218,9 @@ impl OrderedNet {
     /// no tile posted.
     pub fn tick(&mut self) -> Result<(), NotEnabled>
         requires { length self.old.network.ordered + tile_count self.old.chip ≤ self.old.room }
-        ensures ok { OnOk result (network_ticked self.old.chip self.old.network ≡ Some self.new.network) }
+        ensures ok { OnOk result (after_network_tick self.old.chip self.old.network ≡ Some self.new.network) }
         ensures few { length self.new.network.ordered ≤ length self.old.network.ordered + tile_count self.old.chip }
-        ensures err { OnErr result (network_ticked self.old.chip self.old.network ≡ None) }
+        ensures err { OnErr result (after_network_tick self.old.chip self.old.network ≡ None) }
         ensures kept { OnErr result (self.new ≡ self.old) }
         ensures sizes { SameSizes self.old self.new }
     {
@@ -244,9 +244,9 @@ impl OrderedNet {
 
     /// The tile takes the vector of the next closed window. Refused exactly where it has taken all of them, or is no tile.
     pub fn take(&mut self, t: u8) -> Result<(), NotEnabled>
-        ensures ok { OnOk result (vector_taken self.old.network t ≡ Some self.new.network) }
+        ensures ok { OnOk result (after_vector_take self.old.network t ≡ Some self.new.network) }
         ensures moves { OnOk result (moves_done self.new.network ≡ moves_done self.old.network + 1) }
-        ensures err { OnErr result (vector_taken self.old.network t ≡ None) }
+        ensures err { OnErr result (after_vector_take self.old.network t ≡ None) }
         ensures kept { OnErr result (self.new ≡ self.old) }
         ensures sizes { SameSizes self.old self.new }
     {
@@ -266,13 +266,13 @@ impl OrderedNet {
     /// A copy of a request leaves a channel of the router `r` by a side that it owes, and comes to the next router.
     /// Refused exactly where the channel holds no such copy, no router stands there, or that has no channel for it.
     pub fn hop(&mut self, r: u8, port: Port, slot: u8, out: Port) -> Result<(), NotEnabled>
-        ensures ok { OnOk result (copy_hopped self.old.chip self.old.network r port slot out ≡ Some self.new.network) }
+        ensures ok { OnOk result (after_copy_hop self.old.chip self.old.network r port slot out ≡ Some self.new.network) }
         ensures moves { OnOk result (moves_done self.new.network ≡ moves_done self.old.network + 1) }
-        ensures err { OnErr result (copy_hopped self.old.chip self.old.network r port slot out ≡ None) }
+        ensures err { OnErr result (after_copy_hop self.old.chip self.old.network r port slot out ≡ None) }
         ensures kept { OnErr result (self.new ≡ self.old) }
         ensures sizes { SameSizes self.old self.new }
     {
-        let expected = self.expected_behind(r, out);
+        let expected = self.expected_at_next_hop(r, out);
         self.routers.hop(r, port, slot, out, expected)?;
         Ok(())
     }
@@ -280,10 +280,10 @@ impl OrderedNet {
     /// The tile delivers the request that comes next in the order. Refused exactly where it knows of none, or no copy of it
     /// is there.
     pub fn eject(&mut self, t: u8) -> Result<Request, NotEnabled>
-        ensures ok { IfOk result (λ q. delivered_next self.old.chip self.old.network t ≡ Some (q, self.new.network)) }
+        ensures ok { IfOk result (λ q. after_delivery self.old.chip self.old.network t ≡ Some (q, self.new.network)) }
         ensures in_order { IfOk result (λ q. slice_get self.old.network.ordered (slice_index (delivered_counts self.old.network) t) ≡ Some q) }
         ensures moves { OnOk result (moves_done self.new.network ≡ moves_done self.old.network + 1) }
-        ensures err { OnErr result (delivered_next self.old.chip self.old.network t ≡ None) }
+        ensures err { OnErr result (after_delivery self.old.chip self.old.network t ≡ None) }
         ensures kept { OnErr result (self.new ≡ self.old) }
         ensures sizes { SameSizes self.old self.new }
     {
@@ -305,7 +305,7 @@ impl OrderedNet {
 impl OrderedNet {
     /// Whether [`OrderedNet::inject`] would put a request into a channel.
     pub fn can_inject(&self, t: u8, kind: Kind, line: u16) -> bool
-        ensures { result ≡ is_some (injected self.now.chip self.now.network t kind line) }
+        ensures { result ≡ is_some (after_inject self.now.chip self.now.network t kind line) }
     {
         match self.next_request(t, kind, line) {
             Some(q) => self.routers.can_inject(q),
@@ -315,36 +315,36 @@ impl OrderedNet {
 
     /// Whether [`OrderedNet::post`] would post.
     pub fn can_post(&self, t: u8) -> bool
-        ensures { result ≡ is_some (request_posted self.now.network t) }
+        ensures { result ≡ is_some (after_request_post self.now.network t) }
     {
         !is_none_left(&self.unordered, t) && self.windows.can_post(t)
     }
 
     /// Whether [`OrderedNet::tick`] would pass a tick.
     pub fn can_tick(&self) -> bool
-        ensures { result ≡ is_some (network_ticked self.now.chip self.now.network) }
+        ensures { result ≡ is_some (after_network_tick self.now.chip self.now.network) }
     {
         self.windows.can_tick()
     }
 
     /// Whether [`OrderedNet::take`] would take a vector.
     pub fn can_take(&self, t: u8) -> bool
-        ensures { result ≡ is_some (vector_taken self.now.network t) }
+        ensures { result ≡ is_some (after_vector_take self.now.network t) }
     {
         self.windows.can_take(t)
     }
 
     /// Whether [`OrderedNet::hop`] would move a copy.
     pub fn can_hop(&self, r: u8, port: Port, slot: u8, out: Port) -> bool
-        ensures { result ≡ is_some (copy_hopped self.now.chip self.now.network r port slot out) }
+        ensures { result ≡ is_some (after_copy_hop self.now.chip self.now.network r port slot out) }
     {
-        let expected = self.expected_behind(r, out);
+        let expected = self.expected_at_next_hop(r, out);
         self.routers.can_hop(r, port, slot, out, expected)
     }
 
     /// Whether [`OrderedNet::eject`] would deliver a request.
     pub fn can_eject(&self, t: u8) -> bool
-        ensures { result ≡ is_some (delivered_next self.now.chip self.now.network t) }
+        ensures { result ≡ is_some (after_delivery self.now.chip self.now.network t) }
     {
         step_laws();
         match self.expected(t) {
@@ -376,8 +376,8 @@ impl OrderedNet {
     }
 
     // What the tile on a side of a router expects.
-    fn expected_behind(&self, r: u8, out: Port) -> Option<(u8, u32)>
-        ensures { result ≡ expected_behind self.now.chip self.now.network r out }
+    fn expected_at_next_hop(&self, r: u8, out: Port) -> Option<(u8, u32)>
+        ensures { result ≡ expected_at_next_hop self.now.chip self.now.network r out }
     {
         match self.mesh.neighbour(r, out) {
             Some(to) => self.expected(to),

@@ -7,7 +7,7 @@ ghost use Rattle.mesh_gen.specs.Grid.{tiles};
 ghost use Rattle.mesh_gen.specs.Mesh.{grid};
 ghost use Rattle.mesh_gen.specs.TileSet.{has_tile};
 ghost use Rattle.order_tracker.specs.Order.{upwards, expansion};
-ghost use Rattle.net_iface.specs.Unordered.{list_of, lowest_of, with_last, without_first, LoseLowest};
+ghost use Rattle.net_iface.specs.Unordered.{unordered_at, lowest_of, with_last, without_first, LoseLowest};
 
 use circular_buffer::HeapCircularBuffer;
 use mesh_gen::{Mesh, NoMemory, Request, has_tile};
@@ -32,8 +32,8 @@ pub(crate) fn empty_lists(
 
 // Adds a request to those of its source.
 pub(crate) fn add(lists: &mut Vec<HeapCircularBuffer<Request>>, q: Request)
-    requires { length (list_of lists.old.items q.source).items < (list_of lists.old.items q.source).capacity }
-    ensures { lists.new.items ≡ slice_set lists.old.items q.source (with_last (list_of lists.old.items q.source) q) }
+    requires { length (unordered_at lists.old.items q.source).items < (unordered_at lists.old.items q.source).capacity }
+    ensures { lists.new.items ≡ slice_set lists.old.items q.source (with_last (unordered_at lists.old.items q.source) q) }
 {
     if let Some(list) = lists.get_mut(usize::from(q.source)) {
         list.push_back(q);
@@ -42,7 +42,7 @@ pub(crate) fn add(lists: &mut Vec<HeapCircularBuffer<Request>>, q: Request)
 
 // Whether a tile has no request that is not ordered.
 pub(crate) fn is_none_left(lists: &[HeapCircularBuffer<Request>], t: u8) -> bool
-    ensures { result ≡ (length (list_of lists.now t).items == 0) }
+    ensures { result ≡ (length (unordered_at lists.now t).items == 0) }
 {
     match lists.get(usize::from(t)) {
         Some(list) => list.is_empty(),
@@ -53,7 +53,7 @@ pub(crate) fn is_none_left(lists: &[HeapCircularBuffer<Request>], t: u8) -> bool
 // Takes the first of a tile's requests away.
 fn take_lowest(lists: &mut Vec<HeapCircularBuffer<Request>>, t: u8) -> Option<Request>
     ensures lowest { result ≡ lowest_of lists.old.items t }
-    ensures lists { lists.new.items ≡ slice_set lists.old.items t (without_first (list_of lists.old.items t)) }
+    ensures lists { lists.new.items ≡ slice_set lists.old.items t (without_first (unordered_at lists.old.items t)) }
 {
     match lists.get_mut(usize::from(t)) {
         Some(list) => list.pop_front(),
@@ -61,8 +61,8 @@ fn take_lowest(lists: &mut Vec<HeapCircularBuffer<Request>>, t: u8) -> Option<Re
     }
 }
 
-// The turn of a tile: if it is in the set, the first of its requests goes behind those that are ordered.
-fn take_turn(
+// The turn of a tile: if it is in the set, the first of its requests goes after those that are ordered.
+fn order_first(
     lists: &mut Vec<HeapCircularBuffer<Request>>,
     ordered: &mut Vec<Request>,
     set: u64,
@@ -82,7 +82,7 @@ fn take_turn(
 }
 
 // The turns of the tiles from one on and below another.
-fn take_turns(
+fn order_by_priority(
     lists: &mut Vec<HeapCircularBuffer<Request>>,
     ordered: &mut Vec<Request>,
     set: u64,
@@ -96,7 +96,7 @@ fn take_turns(
     ensures room { vec_capacity ordered.new ≡ vec_capacity ordered.old }
 {
     for t in from..to {
-        take_turn(lists, ordered, set, t);
+        order_first(lists, ordered, set, t);
     }
 }
 
@@ -115,6 +115,6 @@ pub(crate) fn order_window(
     ensures room { vec_capacity ordered.new ≡ vec_capacity ordered.old }
 {
     let first = (number % u64::from(tiles)) as u8;
-    take_turns(lists, ordered, set, first, tiles);
-    take_turns(lists, ordered, set, 0, first);
+    order_by_priority(lists, ordered, set, first, tiles);
+    order_by_priority(lists, ordered, set, 0, first);
 }

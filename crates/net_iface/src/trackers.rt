@@ -2,7 +2,7 @@
 ghost use Rattle.std.specs.Prelude.{◌≡◌, ◌*◌, ◌+◌, ◌<◌, IfOk, Some, length, slice_get, slice_set, option_and_then};
 ghost use Rattle.mesh_gen.specs.Grid.{tiles};
 ghost use Rattle.mesh_gen.specs.Mesh.{grid};
-ghost use Rattle.order_tracker.specs.Tracker.{TrackerState, next_of};
+ghost use Rattle.order_tracker.specs.Tracker.{TrackerState, next_request_of};
 ghost use Rattle.net_iface.specs.Trackers.{AreUnused, MayTakeIn, with_window, MayPass, PassesAt};
 
 use mesh_gen::{Mesh, NoMemory};
@@ -23,7 +23,7 @@ pub(crate) fn new_trackers(alloc: Global, mesh: &Mesh) -> Result<Vec<Tracker>, N
 
 // The request that comes next to a tile: its source and its number. None comes to what is no tile.
 pub(crate) fn expected_by(trackers: &[Tracker], t: u8) -> Option<(u8, u32)>
-    ensures { result ≡ option_and_then next_of (slice_get trackers.now t) }
+    ensures { result ≡ option_and_then next_request_of (slice_get trackers.now t) }
 {
     match trackers.get(usize::from(t)) {
         Some(tracker) => tracker.expected(),

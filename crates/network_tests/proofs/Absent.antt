@@ -7,7 +7,7 @@ use Rattle.mesh_gen.specs.Grid.{Grid}
 use Rattle.vc_bank.specs.Places.{Network, at}
 use Rattle.chip_model.specs.declared.net_copy.NetCopy.{NetCopy}
 use Rattle.chip_model.specs.Copies.{Name, is_named, no_copies}
-use Rattle.chip_model.specs.CopiesOwed.{IsOnTheWay, ComesAlone}
+use Rattle.chip_model.specs.CopiesOwed.{HasCopies, ComesAlone}
 use Rattle.router_xy.specs.RequestNetwork.{RequestNetwork, IsAbsent}
 
 abbrev NothingStands : Type 0

@@ -17,11 +17,11 @@ use Rattle.chip_model.specs.Misses.{Demand, WriteBack, ends_in_getm}
 use Rattle.chip_model.specs.Snoop.{CacheSide, Holding, OwnedCopy, LiveBack, OpenWrite, OpenRead, SharedCopy, Nothing, holding}
 use Rattle.chip_model.specs.Records.{LineRecord}
 use Rattle.chip_model.specs.NodeRows.{access}
-use Rattle.chip_model.specs.Node.{Node, Performed, accessed, request_delivered, message_arrived}
+use Rattle.chip_model.specs.Node.{Node, Performed, node_after_access, node_after_request, node_after_message}
 use Rattle.mem_ctrl.specs.Owners.{record_of}
 use Rattle.mem_ctrl.specs.Waits.{TakesRequest}
 use Rattle.snoop_core.specs.declared.outcome.Outcome.{Outcome}
-use Rattle.snoop_core.specs.Outcomes.{performed}
+use Rattle.snoop_core.specs.Outcomes.{access_performed}
 use Rattle.snoop_core.specs.Requests.{IsRequestOf, IsPutOf, MeetsOwn, OwnRequestFits, DataFits, ListHasRoom}
 
 -- ---- the tests
@@ -73,7 +73,7 @@ pub record Passes (q : Request) (node : Node) : Type 0 where
   pub own : (if q.source == node.tile then owned_by node.side q q.kind else true) ≡ true
   pub list : short_list (holding node.chip node.side q.line) ≡ true
   pub waiting : few_wait (record_of node.records q.line) ≡ true
-  pub room : nat_le (length (request_delivered q node).0.out) 65 ≡ true
+  pub room : nat_le (length (node_after_request q node).0.out) 65 ≡ true
 
 pub record MayTake (q : Request) (node : Node) : Type 0 where
   pub source : q.source < tile_count node.chip
@@ -82,7 +82,7 @@ pub record MayTake (q : Request) (node : Node) : Type 0 where
   pub own : OwnRequestFits node.tile node.side q
   pub list : ListHasRoom 64 node.chip node.tile node.side q
   pub waiting : (r : LineRecord) → record_of node.records q.line ≡ Some r → TakesRequest q 64 r
-  pub room : length (request_delivered q node).0.out ≤ 65
+  pub room : length (node_after_request q node).0.out ≤ 65
 
 both : (a b : Bool) → (a && b) ≡ true → (a ≡ true) × (b ≡ true)
 both true b is = (refl, is)
@@ -150,7 +150,7 @@ may_take q known node now same_q same_node pass =
       own = λ same. own_met now.side known known.kind (ap (λ (b : Bool). if b then owned_by now.side known known.kind else true) (sym (eq-eqb known.source now.tile same)) ∙ pass.own);
       list = λ apart get demand is. list_short (holding now.chip now.side known.line) demand pass.list is;
       waiting = λ r is. waits_by (record_of now.records known.line) known r pass.waiting is;
-      room = leb-true (length (request_delivered known now).0.out) 65 pass.room;
+      room = leb-true (length (node_after_request known now).0.out) 65 pass.room;
     }))
 
 -- ---- a message
@@ -166,13 +166,13 @@ pub record Comes (msg : Msg) (node : Node) : Type 0 where
   pub line : nat_lt msg.line node.chip.lines ≡ true
   pub awaited : awaited_by node.side.misses.demand msg msg.kind ≡ true
   pub home : at_home node msg msg.kind ≡ true
-  pub room : nat_le (length (message_arrived msg node).0.out) 65 ≡ true
+  pub room : nat_le (length (node_after_message msg node).0.out) 65 ≡ true
 
 pub record MayCome (msg : Msg) (node : Node) : Type 0 where
   pub line : msg.line < node.chip.lines
   pub awaited : DataFits node.side msg
   pub home : msg.kind ≡ Back → home node.chip msg.line ≡ node.tile
-  pub room : length (message_arrived msg node).0.out ≤ 65
+  pub room : length (node_after_message msg node).0.out ≤ 65
 
 data_met : (side : CacheSide) (entry : Option Demand) (msg : Msg) → side.misses.demand ≡ entry → lacking entry msg ≡ true → msg.kind ≡ Data → DataFits side msg
 data_met side None msg stands is kind = cc
@@ -185,17 +185,17 @@ data_awaited : (side : CacheSide) (msg : Msg) (k : MsgKind) → msg.kind ≡ k �
 data_awaited side msg Data kind is = data_met side side.misses.demand msg refl is kind
 data_awaited side msg Back kind is = λ data_kind. let no : Back ≡ Data = sym kind ∙ data_kind in cc
 
-comes_home : (node : Node) (msg : Msg) (k : MsgKind) → msg.kind ≡ k → at_home node msg k ≡ true → msg.kind ≡ Back → home node.chip msg.line ≡ node.tile
-comes_home node msg Back kind is back = eqb-true (home node.chip msg.line) node.tile is
-comes_home node msg Data kind is back = let no : Data ≡ Back = sym kind ∙ back in cc
+reaches_memory : (node : Node) (msg : Msg) (k : MsgKind) → msg.kind ≡ k → at_home node msg k ≡ true → msg.kind ≡ Back → home node.chip msg.line ≡ node.tile
+reaches_memory node msg Back kind is back = eqb-true (home node.chip msg.line) node.tile is
+reaches_memory node msg Data kind is back = let no : Data ≡ Back = sym kind ∙ back in cc
 
 pub may_come : (msg known : Msg) (node now : Node) → msg ≡ known → node ≡ now → Comes known now → MayCome msg node
 may_come msg known node now same_msg same_node pass =
     subst (λ (m : Msg). MayCome m node) (sym same_msg) (subst (λ (n : Node). MayCome known n) (sym same_node) (record {
       line = ltb-true known.line now.chip.lines pass.line;
       awaited = data_awaited now.side known known.kind refl pass.awaited;
-      home = comes_home now known known.kind refl pass.home;
-      room = leb-true (length (message_arrived known now).0.out) 65 pass.room;
+      home = reaches_memory now known known.kind refl pass.home;
+      room = leb-true (length (node_after_message known now).0.out) 65 pass.room;
     }))
 
 -- ---- the node after a call
@@ -203,36 +203,36 @@ abbrev pub started_by : Node → Option Performed → Node
 started_by node None = node
 started_by node (Some p) = p.0
 
-went_by : (result : Result Outcome NotEnabled) (node new : Node) (o : Option Performed) → is_some o ≡ true → IfOk result (λ outcome. o ≡ Some (new, performed outcome)) → OnErr result (o ≡ None) → new ≡ started_by node o
+went_by : (result : Result Outcome NotEnabled) (node new : Node) (o : Option Performed) → is_some o ≡ true → IfOk result (λ outcome. o ≡ Some (new, access_performed outcome)) → OnErr result (o ≡ None) → new ≡ started_by node o
 went_by (Ok outcome) node new None some ok err = cc
-went_by (Ok outcome) node new (Some p) some ok err = let same : p ≡ (new, performed outcome) = cc in ap (λ (x : Performed). x.0) (sym same)
+went_by (Ok outcome) node new (Some p) some ok err = let same : p ≡ (new, access_performed outcome) = cc in ap (λ (x : Performed). x.0) (sym same)
 went_by (Err e) node new None some ok err = cc
 went_by (Err e) node new (Some p) some ok err = cc
 
-pub after_access : (result : Result Outcome NotEnabled) (kind : AccessKind) (address value : ℕ) (node now new : Node) → node ≡ now → is_some (accessed (access kind address value) now) ≡ true
-    → IfOk result (λ outcome. accessed (access kind address value) node ≡ Some (new, performed outcome)) → OnErr result (accessed (access kind address value) node ≡ None)
-    → new ≡ started_by now (accessed (access kind address value) now)
+pub after_access : (result : Result Outcome NotEnabled) (kind : AccessKind) (address value : ℕ) (node now new : Node) → node ≡ now → is_some (node_after_access (access kind address value) now) ≡ true
+    → IfOk result (λ outcome. node_after_access (access kind address value) node ≡ Some (new, access_performed outcome)) → OnErr result (node_after_access (access kind address value) node ≡ None)
+    → new ≡ started_by now (node_after_access (access kind address value) now)
 after_access result kind address value node now new same some ok err =
-    let P : Node → Type 0 = λ n. IfOk result (λ outcome. accessed (access kind address value) n ≡ Some (new, performed outcome)) in
-    let Q : Node → Type 0 = λ n. OnErr result (accessed (access kind address value) n ≡ None) in
-    went_by result now new (accessed (access kind address value) now) some (subst P same ok) (subst Q same err)
+    let P : Node → Type 0 = λ n. IfOk result (λ outcome. node_after_access (access kind address value) n ≡ Some (new, access_performed outcome)) in
+    let Q : Node → Type 0 = λ n. OnErr result (node_after_access (access kind address value) n ≡ None) in
+    went_by result now new (node_after_access (access kind address value) now) some (subst P same ok) (subst Q same err)
 
-refused_by : (result : Result Outcome NotEnabled) (node new : Node) (o : Option Performed) → o ≡ None → IfOk result (λ outcome. o ≡ Some (new, performed outcome)) → OnErr result (new ≡ node) → new ≡ node
-refused_by (Ok outcome) node new o none ok kept = let no : None ≡ Some (new, performed outcome) = sym none ∙ ok in cc
+refused_by : (result : Result Outcome NotEnabled) (node new : Node) (o : Option Performed) → o ≡ None → IfOk result (λ outcome. o ≡ Some (new, access_performed outcome)) → OnErr result (new ≡ node) → new ≡ node
+refused_by (Ok outcome) node new o none ok kept = let no : None ≡ Some (new, access_performed outcome) = sym none ∙ ok in cc
 refused_by (Err e) node new o none ok kept = kept
 
 -- a refused access leaves the node as it was
-pub kept_by : (result : Result Outcome NotEnabled) (kind : AccessKind) (address value : ℕ) (node now new : Node) → node ≡ now → accessed (access kind address value) now ≡ None
-    → IfOk result (λ outcome. accessed (access kind address value) node ≡ Some (new, performed outcome)) → OnErr result (new ≡ node) → new ≡ now
+pub kept_by : (result : Result Outcome NotEnabled) (kind : AccessKind) (address value : ℕ) (node now new : Node) → node ≡ now → node_after_access (access kind address value) now ≡ None
+    → IfOk result (λ outcome. node_after_access (access kind address value) node ≡ Some (new, access_performed outcome)) → OnErr result (new ≡ node) → new ≡ now
 kept_by result kind address value node now new same none ok kept =
-    let P : Node → Type 0 = λ n. IfOk result (λ outcome. accessed (access kind address value) n ≡ Some (new, performed outcome)) in
+    let P : Node → Type 0 = λ n. IfOk result (λ outcome. node_after_access (access kind address value) n ≡ Some (new, access_performed outcome)) in
     let Q : Node → Type 0 = λ n. OnErr result (new ≡ n) in
-    refused_by result now new (accessed (access kind address value) now) none (subst P same ok) (subst Q same kept)
+    refused_by result now new (node_after_access (access kind address value) now) none (subst P same ok) (subst Q same kept)
 
-pub after_request : (q known : Request) (node now new : Node) → q ≡ known → node ≡ now → new ≡ (request_delivered q node).0 → new ≡ (request_delivered known now).0
+pub after_request : (q known : Request) (node now new : Node) → q ≡ known → node ≡ now → new ≡ (node_after_request q node).0 → new ≡ (node_after_request known now).0
 after_request q known node now new same_q same_node is =
-    is ∙ ap (λ (x : Request). (request_delivered x node).0) same_q ∙ ap (λ (n : Node). (request_delivered known n).0) same_node
+    is ∙ ap (λ (x : Request). (node_after_request x node).0) same_q ∙ ap (λ (n : Node). (node_after_request known n).0) same_node
 
-pub after_message : (msg known : Msg) (node now new : Node) → msg ≡ known → node ≡ now → new ≡ (message_arrived msg node).0 → new ≡ (message_arrived known now).0
+pub after_message : (msg known : Msg) (node now new : Node) → msg ≡ known → node ≡ now → new ≡ (node_after_message msg node).0 → new ≡ (node_after_message known now).0
 after_message msg known node now new same_msg same_node is =
-    is ∙ ap (λ (m : Msg). (message_arrived m node).0) same_msg ∙ ap (λ (n : Node). (message_arrived known n).0) same_node
+    is ∙ ap (λ (m : Msg). (node_after_message m node).0) same_msg ∙ ap (λ (n : Node). (node_after_message known n).0) same_node

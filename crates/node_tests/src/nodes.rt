@@ -1,7 +1,7 @@
 //! The calls of a node: runs of its protocol.
 ghost use Rattle.std.specs.Prelude.{◌≡◌, ◌<◌, IfOk, replicate};
 ghost use Rattle.chip_model.specs.Node.{opening_node};
-ghost use Rattle.chip_model.specs.NodeRows.{four_tiles, two_tiles, storing, storing_and_read, upgrading, reading, modified, writing_back, missing_beside, written_back};
+ghost use Rattle.chip_model.specs.NodeRows.{four_tiles, two_tiles, storing, storing_and_read, upgrading, waiting_load, modified, writing_back, missing_beside, written_back};
 
 use mesh_gen::{Items, Kind, Mesh, Msg, MsgKind, NoMemory, NotEnabled, Request, Words};
 use report_text::AccessKind;
@@ -108,8 +108,8 @@ fn upgrading(alloc: Global) -> Result<Node, NoMemory>
 }
 
 // A node that is to load from a line, with its request sent.
-fn reading(alloc: Global) -> Result<Node, NoMemory>
-    ensures { IfOk result (λ node. node ≡ reading) }
+fn waiting_load(alloc: Global) -> Result<Node, NoMemory>
+    ensures { IfOk result (λ node. node ≡ waiting_load) }
 {
     let mut node = second_of_two(alloc)?;
     let _ = node.access(AccessKind::Load, 0, 0);
@@ -217,7 +217,7 @@ fn an_upgrade_completes_with_its_own_words(rt: HostRuntime) -> Result<(), Fail> 
 
 #[test]
 fn words_that_come_late_serve_once(rt: HostRuntime) -> Result<(), Fail> {
-    let mut node = reading(rt.alloc())?;
+    let mut node = waiting_load(rt.alloc())?;
     assert_eq!(rt; node.on_request(request_of(0, 1, 0, Kind::GetS)), None);
     assert_eq!(rt; node.on_request(request_of(0, 0, 0, Kind::GetM)), None);
     assert_eq!(rt;
@@ -231,7 +231,7 @@ fn words_that_come_late_serve_once(rt: HostRuntime) -> Result<(), Fail> {
 
 #[test]
 fn words_that_come_early_wait(rt: HostRuntime) -> Result<(), Fail> {
-    let mut node = reading(rt.alloc())?;
+    let mut node = waiting_load(rt.alloc())?;
     assert_eq!(rt; node.on_data(words_for(1, 0, [7, 0, 0, 0])), None);
     assert_eq!(rt;
         node.on_request(request_of(0, 1, 0, Kind::GetS)),

@@ -14,7 +14,7 @@ use Rattle.mesh_gen.proofs.Beside.{neighbour_inside}
 use Rattle.mesh_gen.proofs.Coordinates.{has_tiles}
 use Rattle.mesh_gen.proofs.Distances.{distance-same, apart}
 use Rattle.mesh_gen.proofs.TileSets.{has_tile-or, has_tile-one, has_tile-none, has_tile-set_of, same_sets, is_among-filter, is_among-push, among_all, AllByRecursion-push}
-use Rattle.notify_net.specs.Latches.{LatchState, posted, latch_of, taken_in, Ticks}
+use Rattle.notify_net.specs.Latches.{LatchState, latches_after_post, latch_of, taken_in, Ticks}
 use Rattle.notify_net.specs.Merge.{merged, IsAtPhase}
 use Rattle.notify_net.proofs.Growth.{is_near, is_near_beside, any_of, near-suc}
 
@@ -56,7 +56,7 @@ post_elsewhere g posts t u other =
     rw (has_tile-merged g posts 0 u s, has_tile-merged g (posts ++ t ∷ []) 0 u s, is_among-push posts t s)
     (left_out (is_among posts s) (t == s) (nat_le (distance g s u) 0) far))
 
-pub IsAtPhase-post : (g : Grid) (posts : List ℕ) (t : ℕ) (s : LatchState) → t < tiles g → IsAtPhase g posts 0 s → IsAtPhase g (posts ++ t ∷ []) 0 (posted t s)
+pub IsAtPhase-post : (g : Grid) (posts : List ℕ) (t : ℕ) (s : LatchState) → t < tiles g → IsAtPhase g posts 0 s → IsAtPhase g (posts ++ t ∷ []) 0 (latches_after_post t s)
 IsAtPhase-post g posts t s inside at =
     let within : t < length s.latches = omega (arith, at.count) in
     record {

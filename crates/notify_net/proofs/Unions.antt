@@ -11,7 +11,7 @@ use Rattle.mesh_gen.proofs.Coordinates.{has_tiles}
 use Rattle.mesh_gen.proofs.TileSets.{has_tile-none, same_sets}
 use Rattle.notify_net.specs.declared.links.Sides.{Sides}
 use Rattle.notify_net.specs.Latches.{LatchState, latch_of, taken_in, Ticks}
-use Rattle.notify_net.specs.Links.{beside, sides_of, AreLinks, AreBelow, union_of}
+use Rattle.notify_net.specs.Links.{beside, neighbours_of, AreLinks, AreBelow, union_of}
 use Rattle.notify_net.proofs.Growth.{any_of}
 use Rattle.notify_net.proofs.Phases.{has_tile-union}
 
@@ -21,8 +21,8 @@ beside_below : (g : Grid) (t : ℕ) (p : Port) (o : Option ℕ) → t < tiles g 
 beside_below g t p None inside is = inside
 beside_below g t p (Some n) inside is = neighbour_inside g t p n (has_tiles g t inside) is
 
-AreBelow-sides_of : (g : Grid) (t : ℕ) → t < tiles g → AreBelow (tiles g) (sides_of g t)
-AreBelow-sides_of g t inside =
+AreBelow-neighbours_of : (g : Grid) (t : ℕ) → t < tiles g → AreBelow (tiles g) (neighbours_of g t)
+AreBelow-neighbours_of g t inside =
     record {
       east = beside_below g t E _ inside refl;
       west = beside_below g t W _ inside refl;
@@ -34,7 +34,7 @@ AreBelow-sides_of g t inside =
 pub AreBelow-links : (g : Grid) (links : List Sides) (count t : ℕ) (d : Sides) → AreLinks g links → count ≡ tiles g → t < length links → AreBelow count (slice_index_or links t d)
 AreBelow-links g links count t d are is within =
     let inside : t < tiles g = omega (arith, are.count) in
-    rw (is, get_or_from_slice_get links t (sides_of g t) d (are.each t inside)) (AreBelow-sides_of g t inside)
+    rw (is, get_or_from_slice_get links t (neighbours_of g t) d (are.each t inside)) (AreBelow-neighbours_of g t inside)
 
 -- ---- the union over the sides
 
@@ -53,12 +53,12 @@ same_any : (own e f w x n o s u : Bool) → (own || e) ≡ (own || f) → (own |
 same_any true e f w x n o s u east west north south = refl
 same_any false e f w x n o s u east west north south = rw (east, west, north, south) refl
 
-union_is : (g : Grid) (words : List ℕ) (t : ℕ) → union_of words t (sides_of g t) ≡ taken_in (record { grid = g; latches = words }) t
+union_is : (g : Grid) (words : List ℕ) (t : ℕ) → union_of words t (neighbours_of g t) ≡ taken_in (record { grid = g; latches = words }) t
 union_is g words t =
     let state : LatchState = record { grid = g; latches = words } in
     let side : (p : Port) (s : ℕ) → (has_tile (slice_index words t) s || has_tile (slice_index words (beside g t p)) s) ≡ (has_tile (slice_index words t) s || has_tile (latch_of state (neighbour g t p)) s)
     = λ p s. own_or_beside g words t s (neighbour g t p) in
-    same_sets (union_of words t (sides_of g t)) (taken_in state t) (λ s.
+    same_sets (union_of words t (neighbours_of g t)) (taken_in state t) (λ s.
     has_tile-union (slice_index words t) (slice_index words (beside g t E)) (slice_index words (beside g t W)) (slice_index words (beside g t N)) (slice_index words (beside g t S)) s
     ∙ same_any (has_tile (slice_index words t) s) _ _ _ _ _ _ _ _ (side E s) (side W s) (side N s) (side S s)
     ∙ sym (has_tile-union (slice_index words t) (latch_of state (neighbour g t E)) (latch_of state (neighbour g t W)) (latch_of state (neighbour g t N)) (latch_of state (neighbour g t S)) s))

@@ -14,8 +14,8 @@ abbrev pub cleared : Grid → LatchState
 cleared g = record { grid = g; latches = replicate (tiles g) 0 }
 
 -- the latch of a tile takes in the tile itself
-abbrev pub posted : ℕ → LatchState → LatchState
-posted t s = record s { latches = slice_set s.latches t (bit_or (slice_index s.latches t) (2 ^ t)) }
+abbrev pub latches_after_post : ℕ → LatchState → LatchState
+latches_after_post t s = record s { latches = slice_set s.latches t (bit_or (slice_index s.latches t) (2 ^ t)) }
 
 -- what the latch of a tile holds, where there is one
 abbrev pub latch_of : LatchState → Option ℕ → ℕ

@@ -10,13 +10,13 @@ abbrev pub beside : Grid → ℕ → Port → ℕ
 beside g t p = unwrap_or (neighbour g t p) t
 
 -- the four sides of a tile
-abbrev pub sides_of : Grid → ℕ → Sides
-sides_of g t = record { east = beside g t E; west = beside g t W; north = beside g t N; south = beside g t S }
+abbrev pub neighbours_of : Grid → ℕ → Sides
+neighbours_of g t = record { east = beside g t E; west = beside g t W; north = beside g t N; south = beside g t S }
 
 -- the sides of each tile, in the order of the tiles
 pub record AreLinks (g : Grid) (links : List Sides) : Type 0 where
   pub count : length links ≡ tiles g
-  pub each : (t : ℕ) → t < tiles g → slice_get links t ≡ Some (sides_of g t)
+  pub each : (t : ℕ) → t < tiles g → slice_get links t ≡ Some (neighbours_of g t)
 
 -- the sides are among the first n tiles
 pub record AreBelow (n : ℕ) (sides : Sides) : Type 0 where

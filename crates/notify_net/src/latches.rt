@@ -2,7 +2,7 @@ ghost use Rattle.std.specs.Prelude.{◌≡◌, ◌<◌, ℕ, List, [], ◌++◌,
 ghost use Rattle.mesh_gen.specs.Grid.{Grid, tiles, diameter};
 ghost use Rattle.mesh_gen.specs.Mesh.{grid};
 ghost use Rattle.mesh_gen.specs.TileSet.{set_of};
-ghost use Rattle.notify_net.specs.Latches.{cleared, posted, Ticks};
+ghost use Rattle.notify_net.specs.Latches.{cleared, latches_after_post, Ticks};
 ghost use Rattle.notify_net.specs.Links.{union_of, AreBelow};
 ghost use Rattle.notify_net.specs.Merge.{merged, IsAtPhase};
 
@@ -56,7 +56,7 @@ impl Latches {
     /// The tile's latch takes in the tile.
     pub fn post(&mut self, t: u8)
         requires { t < tiles self.old.grid }
-        ensures posted { self.new ≡ posted t self.old }
+        ensures posted { self.new ≡ latches_after_post t self.old }
         ensures phase { (g : Grid) (posts : List ℕ) → IsAtPhase g posts 0 self.old → IsAtPhase g (posts ++ t ∷ []) 0 self.new }
     {
         post_at(&mut self.latches, t);

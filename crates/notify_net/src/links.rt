@@ -1,6 +1,6 @@
 ghost use Rattle.std.specs.Prelude.{◌≡◌, IfOk};
 ghost use Rattle.mesh_gen.specs.Mesh.{grid};
-ghost use Rattle.notify_net.specs.Links.{sides_of, AreLinks};
+ghost use Rattle.notify_net.specs.Links.{neighbours_of, AreLinks};
 
 use mesh_gen::{Mesh, NoMemory, Port};
 use std::alloc::Global;
@@ -15,7 +15,7 @@ pub(crate) struct Sides {
 }
 
 fn sides_beside(mesh: &Mesh, t: u8) -> Sides
-    ensures { result ≡ sides_of (grid mesh.now) t }
+    ensures { result ≡ neighbours_of (grid mesh.now) t }
 {
     Sides {
         east: mesh.neighbour(t, Port::E).unwrap_or(t),

@@ -5,9 +5,9 @@ use Rattle.std.specs.List.{AllByRecursion}
 use Rattle.std.specs.Int.{bit_not}
 use Rattle.std.proofs.Math.Pow.{pow_mono}
 use Rattle.order_tracker.specs.Order.{order_from}
-use Rattle.order_tracker.specs.Tracker.{TrackerState, IsWindow, left_of, next_of}
+use Rattle.order_tracker.specs.Tracker.{TrackerState, IsWindow, left_of, next_request_of}
 use Rattle.order_tracker.specs.FirstFrom.{IsFirstFrom}
-use Rattle.order_tracker.proofs.Turns.{Loses, has_tile-below, round_first, expansion-none}
+use Rattle.order_tracker.proofs.Priorities.{Loses, has_tile-below, round_first, expansion-none}
 use Rattle.order_tracker.proofs.Words.{has_tile-without}
 
 -- a list by its first item
@@ -51,11 +51,11 @@ module _ (tiles number window t : ℕ) (tail : List ℕ) (some : 0 < tiles) (few
 
 -- the request that comes next
 pub next_is : (s : TrackerState) (window t : ℕ) → 0 < s.tiles → s.tiles ≤ 64 → AllByRecursion (IsWindow s.tiles) s.windows → slice_get s.windows 0 ≡ Some window
-    → IsFirstFrom window (s.number % s.tiles) t → next_of s ≡ Some (t, slice_index s.used t)
+    → IsFirstFrom window (s.number % s.tiles) t → next_request_of s ≡ Some (t, slice_index s.used t)
 next_is s window t some few all front is =
     let small = (first_all (IsWindow s.tiles) s.windows window all front).inside in
     let head : slice_get (left_of s) 0 ≡ Some t = ap (λ (ws : List ℕ). slice_get (order_from s.tiles s.number ws) 0) (front_is s.windows window front) ∙ head_is s.tiles s.number window t (drop 1 s.windows) some few small is in
     ap (λ (o : Option ℕ). option_map {U = ℕ × ℕ} (λ source. (source, slice_index s.used source)) o) head
 
-pub next_none : (s : TrackerState) → slice_get s.windows 0 ≡ None → next_of s ≡ None
+pub next_none : (s : TrackerState) → slice_get s.windows 0 ≡ None → next_request_of s ≡ None
 next_none s none = rw (front_none s.windows none) refl

@@ -1,5 +1,5 @@
 pub mod Rounds
-pub mod Turns
+pub mod Priorities
 pub mod Words
 pub mod Fronts
 pub mod Sequence

@@ -8,7 +8,7 @@ use Rattle.std.proofs.lemmas.List.Elements.{filter-append}
 use Rattle.std.proofs.lemmas.List.Sums.{sum_by-append}
 use Rattle.mesh_gen.specs.TileSet.{has_tile}
 use Rattle.order_tracker.specs.Order.{upwards, expansion, order_from, order, times, entry_at}
-use Rattle.order_tracker.specs.Tracker.{TrackerState, left_of, next_of, Follows}
+use Rattle.order_tracker.specs.Tracker.{TrackerState, left_of, next_request_of, Follows}
 use Rattle.order_tracker.proofs.Rounds.{filter-below}
 
 -- ---- the order
@@ -63,8 +63,8 @@ named : (n : ℕ) (sources : List ℕ) (count : ℕ → ℕ) (others : ℕ → �
 named n [] count others all same = refl
 named n (x ∷ sources) count others all same = rw (same x all.0) refl
 
--- the next request is the entry behind the used ones
-pub entry_follows : (windows : List ℕ) (used : ℕ) (s : TrackerState) → 0 < s.tiles → Follows windows used s → next_of s ≡ entry_at (order s.tiles windows) used
+-- the next request is the entry after the used ones
+pub entry_follows : (windows : List ℕ) (used : ℕ) (s : TrackerState) → 0 < s.tiles → Follows windows used s → next_request_of s ≡ entry_at (order s.tiles windows) used
 entry_follows windows used s some follows =
     named s.tiles (left_of s) (slice_index s.used) (λ t. times t (take used (order s.tiles windows))) (order_from-below s.tiles s.number s.windows some) follows.counted
     ∙ rw (follows.left, slice_get-drop (order s.tiles windows) used) refl

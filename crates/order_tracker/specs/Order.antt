@@ -11,7 +11,7 @@ upwards first (suc count) = first ∷ upwards (first + 1) count
 abbrev pub round_from : ℕ → ℕ → List ℕ
 round_from n first = upwards first (n - first) ++ upwards 0 first
 
--- the tiles of window number k in the order of their turn: its first turn is that of tile k modulo n
+-- the tiles of window number k by the rotating priority: its first turn is that of tile k modulo n
 abbrev pub expansion : ℕ → ℕ → ℕ → List ℕ
 expansion n k window = filter (has_tile window) (round_from n (k % n))
 

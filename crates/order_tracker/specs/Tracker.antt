@@ -24,8 +24,8 @@ abbrev pub left_of : TrackerState → List ℕ
 left_of s = order_from s.tiles s.number s.windows
 
 -- the request that comes next
-abbrev pub next_of : TrackerState → Option (ℕ × ℕ)
-next_of s = option_map (λ source. (source, slice_index s.used source)) (slice_get (left_of s) 0)
+abbrev pub next_request_of : TrackerState → Option (ℕ × ℕ)
+next_request_of s = option_map (λ source. (source, slice_index s.used source)) (slice_get (left_of s) 0)
 
 -- these windows were pushed, and so many entries of their order were used
 pub record Follows (windows : List ℕ) (used : ℕ) (s : TrackerState) : Type 0 where

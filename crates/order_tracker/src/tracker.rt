@@ -3,7 +3,7 @@ ghost use Rattle.std.specs.List.{AllByRecursion};
 ghost use Rattle.mesh_gen.specs.Grid.{tiles};
 ghost use Rattle.mesh_gen.specs.Mesh.{grid};
 ghost use Rattle.order_tracker.specs.Order.{expansion, order_from, order, entry_at};
-ghost use Rattle.order_tracker.specs.Tracker.{IsNew, IsWindow, left_of, next_of, Follows};
+ghost use Rattle.order_tracker.specs.Tracker.{IsNew, IsWindow, left_of, next_request_of, Follows};
 ghost use Rattle.order_tracker.specs.FirstFrom.{IsFirstFrom};
 
 use crate::tile_set::{first_from, without};
@@ -68,7 +68,7 @@ impl Tracker {
 
     /// The source and the number of the request that comes next. None comes where every pushed window is used up.
     pub fn expected(&self) -> Option<(u8, u32)>
-        ensures next { result ≡ next_of self.now }
+        ensures next { result ≡ next_request_of self.now }
         ensures none { IsNone result ↔ (self.now.windows ≡ []) }
         ensures follows { (windows : List ℕ) (used : ℕ) → Follows windows used self.now → result ≡ entry_at (order self.now.tiles windows) used }
     {
@@ -83,10 +83,10 @@ impl Tracker {
 
     /// Passes over the request that comes next.
     pub fn advance(&mut self)
-        requires expected { IsSome (next_of self.old) }
-        requires count { IfSome (next_of self.old) (λ entry. entry.1 + 1 < 2 ^ 31) }
+        requires expected { IsSome (next_request_of self.old) }
+        requires count { IfSome (next_request_of self.old) (λ entry. entry.1 + 1 < 2 ^ 31) }
         ensures left { left_of self.new ≡ drop 1 (left_of self.old) }
-        ensures used { IfSome (next_of self.old) (λ entry. self.new.used ≡ slice_set self.old.used entry.0 (entry.1 + 1)) }
+        ensures used { IfSome (next_request_of self.old) (λ entry. self.new.used ≡ slice_set self.old.used entry.0 (entry.1 + 1)) }
         ensures room { (self.new.tiles ≡ self.old.tiles) × (self.new.room ≡ self.old.room) }
         ensures windows { length self.new.windows ≤ length self.old.windows }
         // A window that is used up is gone.

@@ -19,7 +19,7 @@ pub taken_then : (old left new : Option (List ℕ)) (first second : List ℕ) �
 taken_then old left None first second a b = a ∙ ap (λ (l : Option (List ℕ)). option_map (λ rest. first ++ rest) l) b
 taken_then old left (Some rest) first second a b = a ∙ ap (λ (l : Option (List ℕ)). option_map (λ rest. first ++ rest) l) b ∙ ap (λ (x : List ℕ). Some x) (sym (append_assoc first second rest))
 
--- a text whose front part is before, with the next bytes of the rest behind it
+-- a text whose prefix is before, with the next bytes of the rest after it
 pub split_further : (whole before rest : List ℕ) (n : ℕ) → whole ≡ before ++ rest → whole ≡ (before ++ take n rest) ++ drop n rest
 split_further whole before rest n e = e ∙ ap (λ (r : List ℕ). before ++ r) (sym (take-append-drop n rest)) ∙ sym (append_assoc before (take n rest) (drop n rest))
 

@@ -1,4 +1,4 @@
--- A reader or a writer of std behind a source or a sink, as contracts see it.
+-- A reader or a writer of std after a source or a sink, as contracts see it.
 use Rattle.std.specs.Prelude.{ℕ}
 
 -- the reader or writer, and how many of its calls failed

@@ -17,7 +17,7 @@ pub record AppendsPart (old new : Option (List ℕ)) (bytes : List ℕ) : Type 0
   pub appended : Appends old new part
 
 -- some bytes were taken from the front of those left
-pub record TakesFront (old new : Option (List ℕ)) : Type 0 where
+pub record TakesPrefix (old new : Option (List ℕ)) : Type 0 where
   pub taken : List ℕ
   pub front : old ≡ option_map (λ rest. taken ++ rest) new
 

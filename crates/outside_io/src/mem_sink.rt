@@ -47,7 +47,7 @@ impl MemSink {
 }
 
 // Writes the front of the piece over the room from `len` on, as far as both go, and answers how many bytes that are.
-fn copy_behind(room: &mut [u8], len: usize, piece: &[u8]) -> usize
+fn copy_rest(room: &mut [u8], len: usize, piece: &[u8]) -> usize
     requires { len ≤ length room.old }
     ensures count { result ≡ min (length piece.now) (length room.old - len) }
     ensures held { take (len + result) room.new ≡ take len room.old ++ take result piece.now }
@@ -83,7 +83,7 @@ impl Sink for MemSink {
             return Err(Failed);
         }
         self.calls.pass();
-        let count = copy_behind(&mut self.room, self.len, piece);
+        let count = copy_rest(&mut self.room, self.len, piece);
         self.len += count;
         Ok(count)
     }

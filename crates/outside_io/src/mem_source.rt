@@ -42,7 +42,7 @@ impl MemSource {
 }
 
 // Moves bytes from the front of one slice to the front of the other, and answers how many.
-fn copy_front(from: &[u8], into: &mut [u8], most: usize) -> usize
+fn copy_prefix(from: &[u8], into: &mut [u8], most: usize) -> usize
     ensures count { result ≡ min (min (length from.now) (length into.old)) most }
     ensures front { take result into.new ≡ take result from.now }
 {
@@ -76,7 +76,7 @@ impl Source for MemSource {
         }
         self.calls.pass();
         let (_, left) = self.bytes.as_slice().split_at(self.taken);
-        let count = copy_front(left, into, self.chunk as usize);
+        let count = copy_prefix(left, into, self.chunk as usize);
         self.taken += count;
         Ok(count)
     }

@@ -1,5 +1,5 @@
 ghost use Rattle.std.specs.Prelude.{◌≡◌, ◌+◌, ◌<◌, ◌≤◌, [], ◌++◌, Some, option_map, length, drop, IfOk, IfSome, IsErrOf};
-ghost use Rattle.outside_io.specs.Streams.{Rose, TakesFront};
+ghost use Rattle.outside_io.specs.Streams.{Rose, TakesPrefix};
 ghost use Rattle.outside_io.specs.declared.reading.ReadEnd.TheVariants.{NoMemory};
 
 use crate::Source;
@@ -38,7 +38,7 @@ pub fn read_all<S: Source>(alloc: Global, source: &mut S, limit: u32) -> Result<
     ensures fault { IsErrOf result ReadEnd.ReadFault → Rose (S.faults source.old) (S.faults source.new) }
 
     // Whatever the answer, the source has given some bytes from its front.
-    ensures front { TakesFront (S.left source.old) (S.left source.new) }
+    ensures front { TakesPrefix (S.left source.old) (S.left source.new) }
     ensures count { S.faults source.old ≤ S.faults source.new }
 {
     let most = limit as usize + 1;

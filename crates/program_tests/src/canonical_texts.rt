@@ -73,7 +73,7 @@ fn two_windows(alloc: Global) -> Result<Posts, Fail>
     Ok(Items::new(posts))
 }
 
-// With posts, words of memory with zeros between and behind them, and programs.
+// With posts, words of memory with zeros between and after them, and programs.
 fn four_tiles(alloc: Global) -> Result<Document, Fail> {
     let memory = Vec::from_slice(alloc, &[0, 7, 0, 4294967295, 0, 0, 0, 0])?;
     Ok(Document {

@@ -3,7 +3,7 @@ use std::alloc::{AllocError, Global};
 use std::process::Abort;
 use std::test::Fail;
 
-// A description, and the fault that it has first.
+// A document, and the fault that it has first.
 const FIRST_FAULTS: [(&str, &str); 7] = [
     (
         "[mesh]\ncols = 2\nrows = 2",
@@ -236,7 +236,7 @@ const FAULTS_OF_KEYS: [(&str, &str, &str); 62] = [
     ("", "vcs = 1\nvcs = 2", "NotToml"),
 ];
 
-// Bytes that are no description.
+// Bytes that are no document.
 const HOSTILE: [(&[u8], &str); 12] = [
     (b"\xff", "NotToml"),
     (b"[mesh]\ncols = 2\xc3", "NotToml"),
@@ -292,7 +292,7 @@ const LONG: [(u8, &str); 7] = [
     (b'#', "Missing { key: Mesh, at: 0 }"),
 ];
 
-// A description, and the document that it is.
+// A document, and the document that it is.
 const ACCEPTED: [(&str, &str); 2] = [
     (
         "[mesh]\ncols = 1\nrows = 1\nwindow = 1\nvcs = 1\ndata_vcs = 1\nlines = 1\nsets = 1\nways = 1\ncontrollers = [0]\n\n[[core]]\ntile = 0\ncode = '''\nli r1 7\nst r1 r0 2\nld r2 r0 2\nhalt\n'''\n",

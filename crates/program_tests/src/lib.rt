@@ -1,4 +1,4 @@
-//! Tests of the public calls that read descriptions, run commands and write texts.
+//! Tests of the public calls that read documents, run commands and write texts.
 #![tactic(auto)]
 
 #[cfg(test)]

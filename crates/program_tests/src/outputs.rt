@@ -10,7 +10,7 @@ const FOUR_TILES: &str = "posts = [[0,3],[1,3],[2]]\n[mesh]\ncols = 2\nrows = 2\
 const ONE_TILE: &str =
     "[mesh]\ncols = 1\nrows = 1\nwindow = 1\nvcs = 1\ndata_vcs = 1\nlines = 1\nsets = 1\nways = 1\ncontrollers = [0]\n\n[[core]]\ntile = 0\ncode = '''\nli r1 7\nst r1 r0 2\nld r2 r0 2\nhalt\n'''\n";
 
-// What a command writes for a description.
+// What a command writes for a document.
 const TEXTS: [(Command, &str, &str); 10] = [
     (Command::Order, FOUR_TILES, "0 3 1 3 2\n"),
     (
@@ -64,7 +64,7 @@ fn each_command_writes_its_text_with_ample_memory(rt: HostRuntime) -> Result<(),
     Ok(())
 }
 
-// A description, how many tiles it has, and the order of what it posts.
+// A document, how many tiles it has, and the order of what it posts.
 const ORDERS: [(&str, u8, &str); 5] = [
     (
         "posts = [[0],[0],[0]]\n[mesh]\ncols = 1\nrows = 1\nwindow = 1\n",
@@ -134,7 +134,7 @@ fn a_write_that_fails_leaves_a_prefix(rt: HostRuntime) -> Result<(), Fail> {
     Ok(())
 }
 
-// Every key of a description.
+// Every key of a document.
 const EVERY_KEY: &str =
     "posts = [[0,1],[1]]\n[mesh]\ncols = 2\nrows = 1\nwindow = 3\nvcs = 2\ndata_vcs = 2\nlines = 4\nsets = 2\nways = 2\ncontrollers = [0,1]\nmemory = [1,2]\n[[core]]\ntile = 0\ncode = 'halt'\n";
 

@@ -3,7 +3,7 @@ use commands::{Command, Stop};
 use std::alloc::{AllocError, Global};
 use std::test::Fail;
 
-// Descriptions of a mesh, and what is said of the first fault: nothing where they are shown.
+// Documents of a mesh, and what is said of the first fault: nothing where they are shown.
 const SAID: [(&str, &str); 17] = [
     ("", "missing mesh"),
     ("[mesh]\ncols =", "not toml"),
@@ -57,7 +57,7 @@ const SAID: [(&str, &str); 17] = [
     ),
 ];
 
-// What is said of the fault of a description: nothing where it has none.
+// What is said of the fault of a document: nothing where it has none.
 fn said(alloc: Global, text: &str) -> Result<String, AllocError> {
     let mut source = input(alloc, text.as_bytes(), &[])?;
     let mut sink = output(alloc, &[])?;
@@ -90,7 +90,7 @@ fn a_read_that_fails_ends_the_run(rt: HostRuntime) -> Result<(), Fail> {
 // How many bytes an input may have.
 const LIMIT: usize = 1_048_576;
 
-// How `show` ends on a description that line feeds make so long.
+// How `show` ends on a document that line feeds make so long.
 fn shown_of_length(alloc: Global, length: usize) -> Result<Result<(), Stop>, AllocError> {
     let mut bytes = Vec::from_slice(alloc, b"mesh = { cols = 1, rows = 1, window = 1 }")?;
     bytes.resize(length, b'\n')?;

@@ -15,7 +15,7 @@ use Rattle.vc_bank.specs.Places.{Network, at, put}
 use Rattle.chip_model.specs.declared.channel.Channel.{Channel}
 use Rattle.chip_model.specs.Copies.{channels_of}
 use Rattle.chip_model.specs.Partial.{when, ◌>>=◌}
-use Rattle.chip_model.specs.Replies.{sent, next_channel, forwarded, received}
+use Rattle.chip_model.specs.Replies.{after_send, next_channel, after_data_hop, after_data_eject}
 use Rattle.reply_net.specs.ReplyNetwork.{total}
 use Rattle.reply_net.specs.ReplyRuns.{ReplyEvent, Inject, Hop, Eject, Account, opening_account, accounted, account_of, IsBalanced, AreAtTheirTiles}
 use Rattle.reply_net.proofs.Steps.{bind_some, free_found, next_found, elsewhere, total-put_free, total-take}
@@ -25,16 +25,16 @@ some_one : {X : Type 0} (a b : X) → Some a ≡ Some b → a ≡ b
 some_one a b same = cc
 
 -- ---- what a step does to the sum of a weight
-pub total-sent : (w : Msg → ℕ) (net new : Network Msg) (r : ℕ) (msg : Msg) → sent net r msg ≡ Some new → total w new ≡ total w net + w msg
-unfolding sent
-total-sent w net new r msg made =
+pub total-after_send : (w : Msg → ℕ) (net new : Network Msg) (r : ℕ) (msg : Msg) → after_send net r msg ≡ Some new → total w new ≡ total w net + w msg
+unfolding after_send
+total-after_send w net new r msg made =
     bind_some (λ (slot : ℕ). Some (put net r (port_number L) slot (Some msg))) (lowest_free (channels_of net r) (port_number L)) new made (λ slot lowest is.
     ap (λ (net : Network Msg). total w net) (sym (some_one (put net r (port_number L) slot (Some msg)) new is)) ∙ total-put_free w net r (port_number L) slot msg (free_found net r (port_number L) slot lowest))
 
-pub total-forwarded : (w : Msg → ℕ) (g : Grid) (net new : Network Msg) (r : ℕ) (port : Port) (slot : ℕ) → ((g : Grid) (dest r n : ℕ) → HasTiles g → neighbour g r (route g r dest) ≡ Some n → distance g r dest ≡ distance g n dest + 1)
-    → HasTiles g → forwarded g net r port slot ≡ Some new → total w new ≡ total w net
-unfolding forwarded
-total-forwarded w g net new r port slot nearer some made =
+pub total-after_data_hop : (w : Msg → ℕ) (g : Grid) (net new : Network Msg) (r : ℕ) (port : Port) (slot : ℕ) → ((g : Grid) (dest r n : ℕ) → HasTiles g → neighbour g r (route g r dest) ≡ Some n → distance g r dest ≡ distance g n dest + 1)
+    → HasTiles g → after_data_hop g net r port slot ≡ Some new → total w new ≡ total w net
+unfolding after_data_hop
+total-after_data_hop w g net new r port slot nearer some made =
     let p = port_number port in
     let mid = put net r p slot None in
     bind_some (λ (msg : Msg). next_channel g net r msg >>= (λ next. Some (put mid next.router (port_number next.port) next.slot (Some msg)))) (at net r p slot) new made (λ msg stands rest.
@@ -53,8 +53,8 @@ when_some : {X : Type 0} (guard : Bool) (x y : X) → when guard (Some x) ≡ So
 when_some true x y is = (refl, some_one x y is)
 when_some false x y is = cc
 
-pub received_is : (net : Network Msg) (r : ℕ) (port : Port) (slot : ℕ) (out : Msg × Network Msg) → received net r port slot ≡ Some out → IsReceived net out.1 r port slot out.0
-unfolding received
+pub received_is : (net : Network Msg) (r : ℕ) (port : Port) (slot : ℕ) (out : Msg × Network Msg) → after_data_eject net r port slot ≡ Some out → IsReceived net out.1 r port slot out.0
+unfolding after_data_eject
 received_is net r port slot out made =
     bind_some {Y = Msg × Network Msg} (λ (msg : Msg). when (msg.to == r) (Some (msg, put net r (port_number port) slot None))) (at net r (port_number port) slot) out made (λ msg stands rest.
     let both = when_some {X = Msg × Network Msg} (msg.to == r) (msg, put net r (port_number port) slot None) out rest in
@@ -67,15 +67,15 @@ Nearer = (g : Grid) (dest r n : ℕ) → HasTiles g → neighbour g r (route g r
 balanced_next : (g : Grid) (account next : Account) (event : ReplyEvent) → Nearer → HasTiles g → IsBalanced account → accounted g account event ≡ Some next → IsBalanced next
 unfolding accounted
 balanced_next g account next (Inject r msg) nearer some balanced made =
-    bind_some (λ (net : Network Msg). Some (record account { messages = net; injected = msg ∷ account.injected })) (sent account.messages r msg) next made (λ net was is.
+    bind_some (λ (net : Network Msg). Some (record account { messages = net; injected = msg ∷ account.injected })) (after_send account.messages r msg) next made (λ net was is.
     subst (λ (next : Account). IsBalanced next) (some_one (record account { messages = net; injected = msg ∷ account.injected }) next is)
-    (λ test. let more = total-sent (λ msg. count_if (test msg)) account.messages net r msg was in let before = balanced test in omega (arith, sum_by-cons (λ (msg : Msg). count_if (test msg)) msg account.injected)))
+    (λ test. let more = total-after_send (λ msg. count_if (test msg)) account.messages net r msg was in let before = balanced test in omega (arith, sum_by-cons (λ (msg : Msg). count_if (test msg)) msg account.injected)))
 balanced_next g account next (Hop r port slot) nearer some balanced made =
-    bind_some (λ (net : Network Msg). Some (record account { messages = net })) (forwarded g account.messages r port slot) next made (λ net was is.
+    bind_some (λ (net : Network Msg). Some (record account { messages = net })) (after_data_hop g account.messages r port slot) next made (λ net was is.
     subst (λ (next : Account). IsBalanced next) (some_one (record account { messages = net }) next is)
-    (λ test. let same = total-forwarded (λ msg. count_if (test msg)) g account.messages net r port slot nearer some was in let before = balanced test in omega arith))
+    (λ test. let same = total-after_data_hop (λ msg. count_if (test msg)) g account.messages net r port slot nearer some was in let before = balanced test in omega arith))
 balanced_next g account next (Eject r port slot) nearer some balanced made =
-    bind_some (λ (out : Msg × Network Msg). Some (record account { messages = out.1; taken = (r, out.0) ∷ account.taken })) (received account.messages r port slot) next made (λ out was is.
+    bind_some (λ (out : Msg × Network Msg). Some (record account { messages = out.1; taken = (r, out.0) ∷ account.taken })) (after_data_eject account.messages r port slot) next made (λ out was is.
     let taken = received_is account.messages r port slot out was in
     subst (λ (next : Account). IsBalanced next) (some_one (record account { messages = out.1; taken = (r, out.0) ∷ account.taken }) next is)
     (λ test.
@@ -98,13 +98,13 @@ balanced_opening g data_vcs test = let none = nothing_weighs (λ msg. count_if (
 at_tiles_next : (g : Grid) (account next : Account) (event : ReplyEvent) → AreAtTheirTiles account → accounted g account event ≡ Some next → AreAtTheirTiles next
 unfolding accounted
 at_tiles_next g account next (Inject r msg) there made =
-    bind_some (λ (net : Network Msg). Some (record account { messages = net; injected = msg ∷ account.injected })) (sent account.messages r msg) next made (λ net was is.
+    bind_some (λ (net : Network Msg). Some (record account { messages = net; injected = msg ∷ account.injected })) (after_send account.messages r msg) next made (λ net was is.
     subst (λ (next : Account). AreAtTheirTiles next) (some_one (record account { messages = net; injected = msg ∷ account.injected }) next is) there)
 at_tiles_next g account next (Hop r port slot) there made =
-    bind_some (λ (net : Network Msg). Some (record account { messages = net })) (forwarded g account.messages r port slot) next made (λ net was is.
+    bind_some (λ (net : Network Msg). Some (record account { messages = net })) (after_data_hop g account.messages r port slot) next made (λ net was is.
     subst (λ (next : Account). AreAtTheirTiles next) (some_one (record account { messages = net }) next is) there)
 at_tiles_next g account next (Eject r port slot) there made =
-    bind_some (λ (out : Msg × Network Msg). Some (record account { messages = out.1; taken = (r, out.0) ∷ account.taken })) (received account.messages r port slot) next made (λ out was is.
+    bind_some (λ (out : Msg × Network Msg). Some (record account { messages = out.1; taken = (r, out.0) ∷ account.taken })) (after_data_eject account.messages r port slot) next made (λ out was is.
     let taken = received_is account.messages r port slot out was in
     subst (λ (next : Account). AreAtTheirTiles next) (some_one (record account { messages = out.1; taken = (r, out.0) ∷ account.taken }) next is)
     (All-cons (λ (took : ℕ × Msg). took.1.to ≡ took.0) (r, out.0) account.taken taken.here there))

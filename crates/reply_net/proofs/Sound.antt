@@ -8,14 +8,14 @@ use Rattle.mesh_gen.specs.declared.port.Port.TheVariants.{L, E, W, N, S}
 use Rattle.mesh_gen.specs.Grid.{Grid, tiles, neighbour}
 use Rattle.mesh_gen.specs.Limits.{IsFrom, most_side, most_tiles}
 use Rattle.mesh_gen.specs.Ports.{port_number, opposite}
-use Rattle.mesh_gen.specs.Routes.{HasTiles, route, rank, MayStand}
+use Rattle.mesh_gen.specs.Routes.{HasTiles, route, rank, IsRouteChannel}
 use Rattle.vc_bank.specs.Channels.{Channels, slots_at, with_packet, IsFree, empty_channels}
 use Rattle.vc_bank.specs.Places.{Network, slots, at, put, HasPlace, sum_from, slot_count}
 use Rattle.vc_bank.proofs.PlaceLaws.{Apart, one_or_apart, bank-put_other, at-put, at-put_same, at-put_other, place_of, weigh-slot_count, weigh_none, slot_count-put, at-empty, length-slots-put}
 use Rattle.chip_model.specs.declared.channel.Channel.{Channel}
 use Rattle.chip_model.specs.Copies.{channels_of}
 use Rattle.chip_model.specs.Replies.{no_replies}
-use Rattle.reply_net.specs.ReplyNetwork.{message_count, total, AreOnTheirWays, HaveChannels, Moves, IsSound, most_channels}
+use Rattle.reply_net.specs.ReplyNetwork.{message_count, total, AreOnTheirRoutes, HaveChannels, Moves, RepliesFit, most_channels}
 use Rattle.reply_net.proofs.Steps.{free_place, free_none, IsNext, total-take, total-put_free}
 
 -- ---- ports by their numbers
@@ -49,21 +49,21 @@ channels_apart a b other = ⊎_elim
 
 -- ---- messages on their ways
 abbrev OnWay : Grid → Msg → ℕ → Port → Type 0
-OnWay g msg r port = (msg.to < tiles g) × MayStand g msg.to r port
+OnWay g msg r port = (msg.to < tiles g) × IsRouteChannel g msg.to r port
 
 on_way_there : (g : Grid) (msg m : Msg) (r n : ℕ) (port q : Port) → n ≡ r → q ≡ port → Some msg ≡ Some m → OnWay g msg r port → OnWay g m n q
 on_way_there g msg m r n port q router port_is msg_is own =
     let same : msg ≡ m = cc in
     subst (λ (x : Msg). OnWay g x n q) same (subst (λ (y : ℕ). OnWay g msg y q) (sym router) (subst (λ (z : Port). OnWay g msg r z) (sym port_is) own))
 
-on_ways-put : (g : Grid) (net : Network Msg) (r : ℕ) (port : Port) (slot : ℕ) (msg : Msg) → AreOnTheirWays g net → HasPlace net r (port_number port) slot → OnWay g msg r port → AreOnTheirWays g (put net r (port_number port) slot (Some msg))
-on_ways-put g net r port slot msg ways place own n q j m stands = ⊎_elim
+on_routes-put : (g : Grid) (net : Network Msg) (r : ℕ) (port : Port) (slot : ℕ) (msg : Msg) → AreOnTheirRoutes g net → HasPlace net r (port_number port) slot → OnWay g msg r port → AreOnTheirRoutes g (put net r (port_number port) slot (Some msg))
+on_routes-put g net r port slot msg ways place own n q j m stands = ⊎_elim
     (λ same. on_way_there g msg m r n port q same.0 (same_number q port same.1) same.3 own)
     (λ before. ways n q j m before)
     (at-put net r (port_number port) slot (Some msg) n (port_number q) j m place stands)
 
-on_ways-take : (g : Grid) (net : Network Msg) (r p slot : ℕ) → AreOnTheirWays g net → HasPlace net r p slot → AreOnTheirWays g (put net r p slot None)
-on_ways-take g net r p slot ways place n q j m stands = ⊎_elim
+on_routes-take : (g : Grid) (net : Network Msg) (r p slot : ℕ) → AreOnTheirRoutes g net → HasPlace net r p slot → AreOnTheirRoutes g (put net r p slot None)
+on_routes-take g net r p slot ways place n q j m stands = ⊎_elim
     (λ same. absurd (nothing m same.3))
     (λ before. ways n q j m before)
     (at-put net r p slot None n (port_number q) j m place stands)
@@ -80,27 +80,27 @@ have_channels-put g net r p slot packet have place =
     (have.0, have.1, λ n port inside. length-slots-put net r p slot packet n (port_number port) place ∙ have.2 n port inside)
 
 -- ---- the network stays sound
-pub sound-put : (g : Grid) (net new : Network Msg) (r : ℕ) (port : Port) (slot : ℕ) (msg : Msg) → IsSound (record { grid = g; messages = net }) → IsFree (channels_of net r) (port_number port) slot → msg.to < tiles g → MayStand g msg.to r port
-    → new ≡ put net r (port_number port) slot (Some msg) → IsSound (record { grid = g; messages = new })
+pub sound-put : (g : Grid) (net new : Network Msg) (r : ℕ) (port : Port) (slot : ℕ) (msg : Msg) → RepliesFit (record { grid = g; messages = net }) → IsFree (channels_of net r) (port_number port) slot → msg.to < tiles g → IsRouteChannel g msg.to r port
+    → new ≡ put net r (port_number port) slot (Some msg) → RepliesFit (record { grid = g; messages = new })
 sound-put g net new r port slot msg sound free inside may is =
     let place = free_place net r (port_number port) slot free in
-    subst (λ (net : Network Msg). IsSound (record { grid = g; messages = net })) (sym is) (record {
+    subst (λ (net : Network Msg). RepliesFit (record { grid = g; messages = net })) (sym is) (record {
       some = sound.some;
       routers = length-put net r (port_number port) slot (Some msg) ∙ sound.routers;
       channels = have_channels-put g net r (port_number port) slot (Some msg) sound.channels place;
       few = let same = slot_count-put net r (port_number port) slot (Some msg) place in let most = sound.few in omega arith;
-      on_ways = on_ways-put g net r port slot msg sound.on_ways place (inside, may);
+      on_routes = on_routes-put g net r port slot msg sound.on_routes place (inside, may);
     })
 
-pub sound-take : (g : Grid) (net new : Network Msg) (r p slot : ℕ) (msg : Msg) → IsSound (record { grid = g; messages = net }) → at net r p slot ≡ Some msg → new ≡ put net r p slot None → IsSound (record { grid = g; messages = new })
+pub sound-take : (g : Grid) (net new : Network Msg) (r p slot : ℕ) (msg : Msg) → RepliesFit (record { grid = g; messages = net }) → at net r p slot ≡ Some msg → new ≡ put net r p slot None → RepliesFit (record { grid = g; messages = new })
 sound-take g net new r p slot msg sound stands is =
     let place = place_of net r p slot msg stands in
-    subst (λ (net : Network Msg). IsSound (record { grid = g; messages = net })) (sym is) (record {
+    subst (λ (net : Network Msg). RepliesFit (record { grid = g; messages = net })) (sym is) (record {
       some = sound.some;
       routers = length-put net r p slot None ∙ sound.routers;
       channels = have_channels-put g net r p slot None sound.channels place;
       few = let same = slot_count-put net r p slot None place in let most = sound.few in omega arith;
-      on_ways = on_ways-take g net r p slot sound.on_ways place;
+      on_routes = on_routes-take g net r p slot sound.on_routes place;
     })
 
 -- ---- a hop
@@ -138,17 +138,17 @@ kept_total w net mid new r p slot n q entry msg stands mid_is free new_is =
     placed ∙ taken
 
 -- a message that goes on stands on its way there
-pub stands_next : (g : Grid) (net : Network Msg) (r : ℕ) (msg : Msg) (next : Channel) → ((g : Grid) (dest r n : ℕ) → HasTiles g → neighbour g r (route g r dest) ≡ Some n → MayStand g dest n (opposite (route g r dest)))
-    → HasTiles g → IsNext g net r msg next → MayStand g msg.to next.router next.port
-stands_next g net r msg next stands_on some is = subst (λ (port : Port). MayStand g msg.to next.router port) (sym is.port_is) (stands_on g msg.to r next.router some is.near)
+pub stands_next : (g : Grid) (net : Network Msg) (r : ℕ) (msg : Msg) (next : Channel) → ((g : Grid) (dest r n : ℕ) → HasTiles g → neighbour g r (route g r dest) ≡ Some n → IsRouteChannel g dest n (opposite (route g r dest)))
+    → HasTiles g → IsNext g net r msg next → IsRouteChannel g msg.to next.router next.port
+stands_next g net r msg next stands_on some is = subst (λ (port : Port). IsRouteChannel g msg.to next.router port) (sym is.port_is) (stands_on g msg.to r next.router some is.near)
 
 pub falls_next : (g : Grid) (net : Network Msg) (r : ℕ) (port : Port) (msg : Msg) (next : Channel)
-    → ((g : Grid) (dest r n : ℕ) (q : Port) → HasTiles g → MayStand g dest r q → neighbour g r (route g r dest) ≡ Some n → rank g n (opposite (route g r dest)) < rank g r q)
-    → HasTiles g → MayStand g msg.to r port → IsNext g net r msg next → rank g next.router next.port < rank g r port
+    → ((g : Grid) (dest r n : ℕ) (q : Port) → HasTiles g → IsRouteChannel g dest r q → neighbour g r (route g r dest) ≡ Some n → rank g n (opposite (route g r dest)) < rank g r q)
+    → HasTiles g → IsRouteChannel g msg.to r port → IsNext g net r msg next → rank g next.router next.port < rank g r port
 falls_next g net r port msg next ranks some may is = subst (λ (entry : Port). rank g next.router entry < rank g r port) (sym is.port_is) (ranks g msg.to r next.router port some may is.near)
 
 -- ---- how many messages there can be
-pub few_messages : (g : Grid) (net : Network Msg) → IsSound (record { grid = g; messages = net }) → message_count net ≤ most_channels
+pub few_messages : (g : Grid) (net : Network Msg) → RepliesFit (record { grid = g; messages = net }) → message_count net ≤ most_channels
 few_messages g net sound =
     let most = sound.few in
     let light = weigh-slot_count (λ router port slot msg. 1) (λ r p i packet. omega arith) net in
@@ -169,7 +169,7 @@ bank_there (bank ∷ net) zero p slot msg stands = omega arith
 bank_there (bank ∷ net) (suc r) p slot msg stands = let below = bank_there net r p slot msg stands in omega arith
 
 -- a router with a message is one of the mesh
-pub router_inside : (g : Grid) (net : Network Msg) (r p slot : ℕ) (msg : Msg) → IsSound (record { grid = g; messages = net }) → at net r p slot ≡ Some msg → r < tiles g
+pub router_inside : (g : Grid) (net : Network Msg) (r p slot : ℕ) (msg : Msg) → RepliesFit (record { grid = g; messages = net }) → at net r p slot ≡ Some msg → r < tiles g
 router_inside g net r p slot msg sound stands =
     let within = bank_there net r p slot msg stands in
     let routers = sound.routers in
@@ -195,14 +195,14 @@ length-slots-empty data_vcs zero r port inside = absurd (omega arith)
 length-slots-empty data_vcs (suc count) zero port inside = length-slots_at-empty data_vcs port
 length-slots-empty data_vcs (suc count) (suc r) port inside = length-slots-empty data_vcs count r port (omega arith)
 
-pub sound_empty : (g : Grid) (data_vcs : ℕ) (net : Network Msg) → HasTiles g → tiles g ≤ most_tiles → 0 < data_vcs → data_vcs ≤ 4 → net ≡ no_replies g data_vcs → IsSound (record { grid = g; messages = net })
+pub sound_empty : (g : Grid) (data_vcs : ℕ) (net : Network Msg) → HasTiles g → tiles g ≤ most_tiles → 0 < data_vcs → data_vcs ≤ 4 → net ≡ no_replies g data_vcs → RepliesFit (record { grid = g; messages = net })
 sound_empty g data_vcs net some small some_vcs few is =
-    subst (λ (net : Network Msg). IsSound (record { grid = g; messages = net })) (sym is) (record {
+    subst (λ (net : Network Msg). RepliesFit (record { grid = g; messages = net })) (sym is) (record {
       some = some;
       routers = length-replicate (tiles g) (empty_channels data_vcs false);
       channels = (data_vcs, some_vcs, λ r port inside. length-slots-empty data_vcs (tiles g) r port inside);
       few = let count = sum_from-replicate (λ router (bank : Channels Msg). sum_from (λ port (slots : List (Option Msg)). length slots) 0 bank) (5 * data_vcs) (empty_channels data_vcs false) (λ n. slots_of_bank data_vcs) (tiles g) 0 in most_slots (tiles g) data_vcs (slot_count (no_replies g data_vcs)) small few count;
-      on_ways = λ r port slot msg stands. absurd (no_message g data_vcs r (port_number port) slot msg stands);
+      on_routes = λ r port slot msg stands. absurd (no_message g data_vcs r (port_number port) slot msg stands);
     })
   where
     most_slots : (count each total : ℕ) → count ≤ most_tiles → each ≤ 4 → total ≡ count * (5 * each) → total ≤ most_channels
@@ -217,12 +217,12 @@ pub count_empty : (g : Grid) (data_vcs : ℕ) (net : Network Msg) → net ≡ no
 count_empty g data_vcs net is = sym (ap message_count is ∙ nothing_weighs (λ msg. 1) g data_vcs)
 
 -- the same of a mesh of one's own with the size of the mesh that was given
-pub sound_opened : (own given : Grid) (data_vcs : ℕ) (net : Network Msg) → own.cols ≡ given.cols → own.rows ≡ given.rows → IsFrom 1 most_side given.cols → IsFrom 1 most_side given.rows → IsFrom 1 4 data_vcs → net ≡ no_replies given data_vcs → IsSound (record { grid = own; messages = net })
+pub sound_opened : (own given : Grid) (data_vcs : ℕ) (net : Network Msg) → own.cols ≡ given.cols → own.rows ≡ given.rows → IsFrom 1 most_side given.cols → IsFrom 1 most_side given.rows → IsFrom 1 4 data_vcs → net ≡ no_replies given data_vcs → RepliesFit (record { grid = own; messages = net })
 sound_opened own given data_vcs net cols rows cols_limit rows_limit vcs_limit is =
     let some_column = cols_limit.low in
     let some_row = rows_limit.low in
     let some : HasTiles given = record { some_column = omega arith; some_row = omega arith } in
-    subst (λ (g : Grid). IsSound (record { grid = g; messages = net })) (sym (same_grid own.cols given.cols own.rows given.rows cols rows))
+    subst (λ (g : Grid). RepliesFit (record { grid = g; messages = net })) (sym (same_grid own.cols given.cols own.rows given.rows cols rows))
     (sound_empty given data_vcs net some (mul-le-mul cols_limit.high rows_limit.high) (let low = vcs_limit.low in omega arith) vcs_limit.high is)
   where
     same_grid : (a b p q : ℕ) → a ≡ b → p ≡ q → ◌≡◌ {A = Grid} (record { cols = a; rows = p }) (record { cols = b; rows = q })

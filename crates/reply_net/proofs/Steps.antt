@@ -17,7 +17,7 @@ use Rattle.vc_bank.proofs.PlaceLaws.{weigh-put, weigh_at}
 use Rattle.chip_model.specs.declared.channel.Channel.{Channel}
 use Rattle.chip_model.specs.Copies.{channels_of}
 use Rattle.chip_model.specs.Partial.{◌>>=◌, when}
-use Rattle.chip_model.specs.Replies.{sent, next_channel, forwarded, received}
+use Rattle.chip_model.specs.Replies.{after_send, next_channel, after_data_hop, after_data_eject}
 use Rattle.reply_net.specs.ReplyNetwork.{total}
 
 -- ---- a free channel is there, and holds nothing
@@ -115,37 +115,37 @@ elsewhere g net r msg next nearer some is same =
 
 -- ---- the steps, from what a call found
 
-pub sent_into : (net : Network Msg) (r : ℕ) (msg : Msg) (slot : ℕ) → lowest_free (channels_of net r) (port_number L) ≡ Some slot → sent net r msg ≡ Some (put net r (port_number L) slot (Some msg))
-unfolding sent
+pub sent_into : (net : Network Msg) (r : ℕ) (msg : Msg) (slot : ℕ) → lowest_free (channels_of net r) (port_number L) ≡ Some slot → after_send net r msg ≡ Some (put net r (port_number L) slot (Some msg))
+unfolding after_send
 sent_into net r msg slot lowest = rw lowest
 
-pub not_sent : (net : Network Msg) (r : ℕ) (msg : Msg) → lowest_free (channels_of net r) (port_number L) ≡ None → sent net r msg ≡ None
-unfolding sent
+pub not_sent : (net : Network Msg) (r : ℕ) (msg : Msg) → lowest_free (channels_of net r) (port_number L) ≡ None → after_send net r msg ≡ None
+unfolding after_send
 not_sent net r msg lowest = rw lowest
 
 pub forwarded_to : (g : Grid) (net : Network Msg) (r : ℕ) (port : Port) (slot : ℕ) (msg : Msg) (next : Channel) → at net r (port_number port) slot ≡ Some msg → next_channel g net r msg ≡ Some next
-    → forwarded g net r port slot ≡ Some (put (put net r (port_number port) slot None) next.router (port_number next.port) next.slot (Some msg))
-unfolding forwarded
+    → after_data_hop g net r port slot ≡ Some (put (put net r (port_number port) slot None) next.router (port_number next.port) next.slot (Some msg))
+unfolding after_data_hop
 forwarded_to g net r port slot msg next stands found = rw (stands, found)
 
-pub nothing_there : (g : Grid) (net : Network Msg) (r : ℕ) (port : Port) (slot : ℕ) → at net r (port_number port) slot ≡ None → forwarded g net r port slot ≡ None
-unfolding forwarded
+pub nothing_there : (g : Grid) (net : Network Msg) (r : ℕ) (port : Port) (slot : ℕ) → at net r (port_number port) slot ≡ None → after_data_hop g net r port slot ≡ None
+unfolding after_data_hop
 nothing_there g net r port slot stands = rw stands
 
-pub no_next : (g : Grid) (net : Network Msg) (r : ℕ) (port : Port) (slot : ℕ) (msg : Msg) → at net r (port_number port) slot ≡ Some msg → next_channel g net r msg ≡ None → forwarded g net r port slot ≡ None
-unfolding forwarded
+pub no_next : (g : Grid) (net : Network Msg) (r : ℕ) (port : Port) (slot : ℕ) (msg : Msg) → at net r (port_number port) slot ≡ Some msg → next_channel g net r msg ≡ None → after_data_hop g net r port slot ≡ None
+unfolding after_data_hop
 no_next g net r port slot msg stands found = rw (stands, found)
 
-pub received_from : (net : Network Msg) (r : ℕ) (port : Port) (slot : ℕ) (msg : Msg) → at net r (port_number port) slot ≡ Some msg → msg.to ≡ r → received net r port slot ≡ Some (msg, put net r (port_number port) slot None)
-unfolding received
+pub received_from : (net : Network Msg) (r : ℕ) (port : Port) (slot : ℕ) (msg : Msg) → at net r (port_number port) slot ≡ Some msg → msg.to ≡ r → after_data_eject net r port slot ≡ Some (msg, put net r (port_number port) slot None)
+unfolding after_data_eject
 received_from net r port slot msg stands here = rw (stands, eq-eqb msg.to r here)
 
-pub nothing_received : (net : Network Msg) (r : ℕ) (port : Port) (slot : ℕ) → at net r (port_number port) slot ≡ None → received net r port slot ≡ None
-unfolding received
+pub nothing_received : (net : Network Msg) (r : ℕ) (port : Port) (slot : ℕ) → at net r (port_number port) slot ≡ None → after_data_eject net r port slot ≡ None
+unfolding after_data_eject
 nothing_received net r port slot stands = rw stands
 
-pub not_here : (net : Network Msg) (r : ℕ) (port : Port) (slot : ℕ) (msg : Msg) → at net r (port_number port) slot ≡ Some msg → msg.to ≢ r → received net r port slot ≡ None
-unfolding received
+pub not_here : (net : Network Msg) (r : ℕ) (port : Port) (slot : ℕ) (msg : Msg) → at net r (port_number port) slot ≡ Some msg → msg.to ≢ r → after_data_eject net r port slot ≡ None
+unfolding after_data_eject
 not_here net r port slot msg stands other = rw (stands, ne_eqb msg.to r other)
 
 -- ---- what a call reads from the channels of the network
@@ -170,15 +170,15 @@ some_when : {X : Type 0} (guard : Bool) (x : X) → is_some (when guard (Some x)
 some_when true x = refl
 some_when false x = refl
 
-pub can_send : (net : Network Msg) (r : ℕ) (msg : Msg) → is_some (lowest_free (channels_of net r) (port_number L)) ≡ is_some (sent net r msg)
-unfolding sent
+pub can_send : (net : Network Msg) (r : ℕ) (msg : Msg) → is_some (lowest_free (channels_of net r) (port_number L)) ≡ is_some (after_send net r msg)
+unfolding after_send
 can_send net r msg = sym (some_bind (lowest_free (channels_of net r) (port_number L)) (λ slot. put net r (port_number L) slot (Some msg)))
 
-pub can_forward : (g : Grid) (net : Network Msg) (r : ℕ) (port : Port) (slot : ℕ) (msg : Msg) → at net r (port_number port) slot ≡ Some msg → is_some (next_channel g net r msg) ≡ is_some (forwarded g net r port slot)
-unfolding forwarded
+pub can_forward : (g : Grid) (net : Network Msg) (r : ℕ) (port : Port) (slot : ℕ) (msg : Msg) → at net r (port_number port) slot ≡ Some msg → is_some (next_channel g net r msg) ≡ is_some (after_data_hop g net r port slot)
+unfolding after_data_hop
 can_forward g net r port slot msg stands =
     rw stands (sym (some_bind (next_channel g net r msg) (λ next. put (put net r (port_number port) slot None) next.router (port_number next.port) next.slot (Some msg))))
 
-pub can_receive : (net : Network Msg) (r : ℕ) (port : Port) (slot : ℕ) (msg : Msg) → at net r (port_number port) slot ≡ Some msg → (msg.to == r) ≡ is_some (received net r port slot)
-unfolding received
+pub can_receive : (net : Network Msg) (r : ℕ) (port : Port) (slot : ℕ) (msg : Msg) → at net r (port_number port) slot ≡ Some msg → (msg.to == r) ≡ is_some (after_data_eject net r port slot)
+unfolding after_data_eject
 can_receive net r port slot msg stands = rw stands (sym (some_when {X = Msg × Network Msg} (msg.to == r) (msg, put net r (port_number port) slot None)))

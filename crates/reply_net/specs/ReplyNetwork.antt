@@ -5,7 +5,7 @@ use Rattle.mesh_gen.specs.declared.port.Port.{Port}
 use Rattle.mesh_gen.specs.Grid.{Grid, tiles}
 use Rattle.mesh_gen.specs.Limits.{most_tiles}
 use Rattle.mesh_gen.specs.Ports.{port_number}
-use Rattle.mesh_gen.specs.Routes.{HasTiles, MayStand, rank}
+use Rattle.mesh_gen.specs.Routes.{HasTiles, IsRouteChannel, rank}
 use Rattle.vc_bank.specs.Places.{Network, slots, at, weigh, slot_count}
 use Rattle.chip_model.specs.declared.channel.Channel.{Channel}
 
@@ -27,9 +27,9 @@ abbrev pub message_in : Network Msg → Channel → Option Msg
 message_in net channel = at net channel.router (port_number channel.port) channel.slot
 
 -- each message is for a tile, and stands where its route may lead it
-abbrev pub AreOnTheirWays : Grid → Network Msg → Type 0
-AreOnTheirWays g net =
-    (r : ℕ) (port : Port) (slot : ℕ) (msg : Msg) → at net r (port_number port) slot ≡ Some msg → (msg.to < tiles g) × MayStand g msg.to r port
+abbrev pub AreOnTheirRoutes : Grid → Network Msg → Type 0
+AreOnTheirRoutes g net =
+    (r : ℕ) (port : Port) (slot : ℕ) (msg : Msg) → at net r (port_number port) slot ≡ Some msg → (msg.to < tiles g) × IsRouteChannel g msg.to r port
 
 -- one message went from a channel to a free one of lower rank, and no other channel changed
 pub record Moves (g : Grid) (old new : Network Msg) (from : Channel) : Type 0 where
@@ -52,9 +52,9 @@ abbrev pub most_channels : ℕ
 most_channels = most_tiles * 20
 
 -- there are routers, one for each tile, with channels, and the messages in them are on their ways
-pub record IsSound (net : ReplyNetwork) : Type 0 where
+pub record RepliesFit (net : ReplyNetwork) : Type 0 where
   pub some : HasTiles net.grid
   pub routers : length net.messages ≡ tiles net.grid
   pub channels : HaveChannels net.grid net.messages
   pub few : slot_count net.messages ≤ most_channels
-  pub on_ways : AreOnTheirWays net.grid net.messages
+  pub on_routes : AreOnTheirRoutes net.grid net.messages

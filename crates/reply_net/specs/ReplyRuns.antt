@@ -7,7 +7,7 @@ use Rattle.mesh_gen.specs.Grid.{Grid}
 use Rattle.mesh_gen.specs.Ports.{count_if}
 use Rattle.vc_bank.specs.Places.{Network}
 use Rattle.chip_model.specs.Partial.{◌>>=◌}
-use Rattle.chip_model.specs.Replies.{no_replies, sent, forwarded, received}
+use Rattle.chip_model.specs.Replies.{no_replies, after_send, after_data_hop, after_data_eject}
 use Rattle.reply_net.specs.ReplyNetwork.{total}
 
 -- a call: a message enters at a tile, or the message in a channel goes on, or is taken
@@ -28,11 +28,11 @@ opening_account g data_vcs = record { messages = no_replies g data_vcs; injected
 -- the account after a call, where it is not refused
 unfoldable pub accounted : Grid → Account → ReplyEvent → Option Account
 accounted g account (Inject r msg) =
-    sent account.messages r msg >>= (λ net. Some (record account { messages = net; injected = msg ∷ account.injected }))
+    after_send account.messages r msg >>= (λ net. Some (record account { messages = net; injected = msg ∷ account.injected }))
 accounted g account (Hop r port slot) =
-    forwarded g account.messages r port slot >>= (λ net. Some (record account { messages = net }))
+    after_data_hop g account.messages r port slot >>= (λ net. Some (record account { messages = net }))
 accounted g account (Eject r port slot) =
-    received account.messages r port slot >>= (λ out. Some (record account { messages = out.1; taken = (r, out.0) ∷ account.taken }))
+    after_data_eject account.messages r port slot >>= (λ out. Some (record account { messages = out.1; taken = (r, out.0) ∷ account.taken }))
 
 -- the account after a list of calls, where none is refused
 unfoldable pub account_of : Grid → Account → List ReplyEvent → Option Account

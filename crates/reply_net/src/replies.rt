@@ -6,8 +6,8 @@ ghost use Rattle.mesh_gen.specs.Routes.{HasTiles};
 ghost use Rattle.vc_bank.specs.Channels.{IsFree};
 ghost use Rattle.vc_bank.specs.Places.{at};
 ghost use Rattle.chip_model.specs.Copies.{channels_of};
-ghost use Rattle.chip_model.specs.Replies.{no_replies, sent, forwarded, received, is_empty};
-ghost use Rattle.reply_net.specs.ReplyNetwork.{total, AreOnTheirWays, HaveChannels, Moves};
+ghost use Rattle.chip_model.specs.Replies.{no_replies, after_send, after_data_hop, after_data_eject, is_empty};
+ghost use Rattle.reply_net.specs.ReplyNetwork.{total, AreOnTheirRoutes, HaveChannels, Moves};
 
 use crate::banks::next_channel;
 use mesh_gen::{Mesh, Msg, NoChannel, NoMemory, NotEnabled, Port, route_laws};
@@ -27,13 +27,13 @@ pub struct Replies {
 impl Model for Replies {
     ghost use Rattle.std.specs.Prelude.{◌≡◌};
     ghost use Rattle.mesh_gen.specs.Mesh.{grid};
-    ghost use Rattle.reply_net.specs.ReplyNetwork.{ReplyNetwork, IsSound, message_count};
+    ghost use Rattle.reply_net.specs.ReplyNetwork.{ReplyNetwork, RepliesFit, message_count};
 
     ghost Value = { ReplyNetwork };
 
     ghost view = { λ replies. record { grid = grid replies.mesh; messages = replies.banks.items } };
 
-    ghost invariant = { λ replies. IsSound (record { grid = grid replies.mesh; messages = replies.banks.items })
+    ghost invariant = { λ replies. RepliesFit (record { grid = grid replies.mesh; messages = replies.banks.items })
         × (replies.count ≡ message_count replies.banks.items) };
 }
 
@@ -63,8 +63,8 @@ impl Replies {
     /// tile or that port has no free channel.
     pub fn inject(&mut self, r: u8, msg: Msg) -> Result<(), NoChannel>
         requires { msg.to < tiles self.old.grid }
-        ensures ok { OnOk result (sent self.old.messages r msg ≡ Some self.new.messages) }
-        ensures err { OnErr result (sent self.old.messages r msg ≡ None) }
+        ensures ok { OnOk result (after_send self.old.messages r msg ≡ Some self.new.messages) }
+        ensures err { OnErr result (after_send self.old.messages r msg ≡ None) }
         ensures kept { OnErr result (self.new ≡ self.old) }
         ensures grid { self.new.grid ≡ self.old.grid }
         ensures adds { OnOk result ((weight : Msg → ℕ) → total weight self.new.messages ≡ total weight self.old.messages + weight msg) }
@@ -81,8 +81,8 @@ impl Replies {
     /// Moves the message in a channel to the lowest free channel at the port by which its route enters the next router.
     /// Refused exactly where the channel holds no message for another tile, or that port has no free channel.
     pub fn hop(&mut self, r: u8, port: Port, slot: u8) -> Result<(), NotEnabled>
-        ensures ok { OnOk result (forwarded self.old.grid self.old.messages r port slot ≡ Some self.new.messages) }
-        ensures err { OnErr result (forwarded self.old.grid self.old.messages r port slot ≡ None) }
+        ensures ok { OnOk result (after_data_hop self.old.grid self.old.messages r port slot ≡ Some self.new.messages) }
+        ensures err { OnErr result (after_data_hop self.old.grid self.old.messages r port slot ≡ None) }
         ensures kept { OnErr result (self.new ≡ self.old) }
         ensures grid { self.new.grid ≡ self.old.grid }
         ensures keeps { (weight : Msg → ℕ) → total weight self.new.messages ≡ total weight self.old.messages }
@@ -103,8 +103,8 @@ impl Replies {
     /// Takes the message out of a channel at its own tile. Refused exactly where the channel holds no message for the
     /// tile `r`.
     pub fn eject(&mut self, r: u8, port: Port, slot: u8) -> Result<Msg, NotEnabled>
-        ensures ok { IfOk result (λ msg. received self.old.messages r port slot ≡ Some (msg, self.new.messages)) }
-        ensures err { OnErr result (received self.old.messages r port slot ≡ None) }
+        ensures ok { IfOk result (λ msg. after_data_eject self.old.messages r port slot ≡ Some (msg, self.new.messages)) }
+        ensures err { OnErr result (after_data_eject self.old.messages r port slot ≡ None) }
         ensures kept { OnErr result (self.new ≡ self.old) }
         ensures grid { self.new.grid ≡ self.old.grid }
         ensures takes { IfOk result (λ msg. (weight : Msg → ℕ)
@@ -126,7 +126,7 @@ impl Replies {
     pub fn is_empty(&self) -> bool
         ensures empty { result ≡ is_empty self.now.messages }
         ensures none { IsTrue result ↔ ((r port slot : ℕ) → at self.now.messages r port slot ≡ None) }
-        ensures on_ways { AreOnTheirWays self.now.grid self.now.messages }
+        ensures on_routes { AreOnTheirRoutes self.now.grid self.now.messages }
     {
         self.count == 0
     }
@@ -134,14 +134,14 @@ impl Replies {
     /// Whether [`Replies::inject`] would put the message into a channel.
     pub fn can_inject(&self, r: u8, msg: Msg) -> bool
         requires { msg.to < tiles self.now.grid }
-        ensures { result ≡ is_some (sent self.now.messages r msg) }
+        ensures { result ≡ is_some (after_send self.now.messages r msg) }
     {
         free_slot(&self.banks, r, Port::L).is_some()
     }
 
     /// Whether [`Replies::hop`] would move a message.
     pub fn can_hop(&self, r: u8, port: Port, slot: u8) -> bool
-        ensures { result ≡ is_some (forwarded self.now.grid self.now.messages r port slot) }
+        ensures { result ≡ is_some (after_data_hop self.now.grid self.now.messages r port slot) }
     {
         match packet_at(&self.banks, r, port, slot) {
             Some(msg) => next_channel(&self.mesh, &self.banks, r, msg).is_some(),
@@ -151,7 +151,7 @@ impl Replies {
 
     /// Whether [`Replies::eject`] would take a message.
     pub fn can_eject(&self, r: u8, port: Port, slot: u8) -> bool
-        ensures { result ≡ is_some (received self.now.messages r port slot) }
+        ensures { result ≡ is_some (after_data_eject self.now.messages r port slot) }
     {
         match packet_at(&self.banks, r, port, slot) {
             Some(msg) => msg.to == r,

@@ -22,7 +22,7 @@ none_is_false false n e = refl
 pub whole_is : (p : ℕ → Bool) (xs : List ℕ) → found_at p xs ≡ None → xs ≡ before_first p xs
 whole_is p xs e = sym (take_all _ xs (ltb-false _ _ (none_is_false _ _ e)))
 
--- what stands behind it
+-- what stands after it
 pub back_is : (p : ℕ → Bool) (xs : List ℕ) (i : ℕ) (back rest : List ℕ) → found_at p xs ≡ Some i → back ≡ drop i xs → rest ≡ drop 1 back → rest ≡ after_first p xs
 back_is p xs i back rest e cut off = off ∙ ap (λ (ys : List ℕ). drop 1 ys) cut ∙ drop-drop 1 i xs ∙ ap (λ (n : ℕ). drop (n + 1) xs) (sym (cond_some _ _ _ e).1)
 

@@ -8,8 +8,8 @@ use Rattle.report_text.specs.declared.entry.Entry.{Entry}
 use Rattle.report_text.specs.declared.event.Event.{Event}
 use Rattle.report_text.specs.declared.event.Event.TheVariants.{Tick, Core, Inject, Post, Take, Eject, Send, Hop, DataHop, DataEject}
 use Rattle.report_text.specs.declared.operands.Fields.{Fields}
-use Rattle.report_text.specs.Events.{form_of, IsWithin}
-use Rattle.report_text.specs.Entry.{fields_of, word_of, packed, IsValid}
+use Rattle.report_text.specs.Events.{event_form, IsWithinLimits}
+use Rattle.report_text.specs.Entry.{fields_of, packed_fields, packed, IsValid}
 use Rattle.report_text.specs.Unpacking.{port_numbered, event_numbered, entry_near}
 
 port_numbered-port_number : (p : Port) → port_numbered (port_number p) ≡ Some p
@@ -27,7 +27,7 @@ port_number-le N = lit≤ tt
 port_number-le S = lit≤ tt
 
 -- an event is that of its number and its fields
-event_numbered-form : (e : Event) → event_numbered (form_of e).number (fields_of (form_of e).operands) ≡ Some e
+event_numbered-form : (e : Event) → event_numbered (event_form e).number (fields_of (event_form e).operands) ≡ Some e
 event_numbered-form Tick = refl
 event_numbered-form (Core t) = refl
 event_numbered-form (Inject t) = refl
@@ -46,7 +46,7 @@ record Fit (f : Fields) : Type 0 where
   slot : f.slot < 16
   out : f.out < 8
 
-number-lt : (e : Event) → (form_of e).number < 16
+number-lt : (e : Event) → (event_form e).number < 16
 number-lt Tick = omega arith
 number-lt (Core t) = omega arith
 number-lt (Inject t) = omega arith
@@ -58,7 +58,7 @@ number-lt (Hop r port slot out) = omega arith
 number-lt (DataHop r port slot) = omega arith
 number-lt (DataEject r port slot) = omega arith
 
-fields_fit : (e : Event) → IsWithin e → Fit (fields_of (form_of e).operands)
+fields_fit : (e : Event) → IsWithinLimits e → Fit (fields_of (event_form e).operands)
 fields_fit Tick w = record { tile = omega arith; port = omega arith; slot = omega arith; out = omega arith }
 fields_fit (Core t) w = record { tile = omega arith; port = omega arith; slot = omega arith; out = omega arith }
 fields_fit (Inject t) w = record { tile = omega arith; port = omega arith; slot = omega arith; out = omega arith }
@@ -81,49 +81,49 @@ field high f low unit count below fits = ap (λ (n : ℕ). n % count) (div-mul-a
 field_of : (word high f low unit count : ℕ) → word ≡ (high * count + f) * unit + low → low < unit → f < count → word / unit % count ≡ f
 field_of word high f low unit count e below fits = rw e (field high f low unit count below fits)
 
-tile_field : (cores by kind : ℕ) (f : Fields) → Fit f → word_of cores by kind f / 2 ^ 10 % 64 ≡ f.tile
+tile_field : (cores by kind : ℕ) (f : Fields) → Fit f → packed_fields cores by kind f / 2 ^ 10 % 64 ≡ f.tile
 tile_field cores by kind f fit =
-    field_of (word_of cores by kind f) (cores * 2 ^ 10 + by * 2 ^ 4 + kind) f.tile (f.port * 2 ^ 7 + f.slot * 2 ^ 3 + f.out) (2 ^ 10) 64
+    field_of (packed_fields cores by kind f) (cores * 2 ^ 10 + by * 2 ^ 4 + kind) f.tile (f.port * 2 ^ 7 + f.slot * 2 ^ 3 + f.out) (2 ^ 10) 64
     (omega arith) (omega (arith, fit.port, fit.slot, fit.out)) fit.tile
 
-port_field : (cores by kind : ℕ) (f : Fields) → Fit f → word_of cores by kind f / 2 ^ 7 % 8 ≡ f.port
+port_field : (cores by kind : ℕ) (f : Fields) → Fit f → packed_fields cores by kind f / 2 ^ 7 % 8 ≡ f.port
 port_field cores by kind f fit =
-    field_of (word_of cores by kind f) (cores * 2 ^ 16 + by * 2 ^ 10 + kind * 2 ^ 6 + f.tile) f.port (f.slot * 2 ^ 3 + f.out) (2 ^ 7) 8
+    field_of (packed_fields cores by kind f) (cores * 2 ^ 16 + by * 2 ^ 10 + kind * 2 ^ 6 + f.tile) f.port (f.slot * 2 ^ 3 + f.out) (2 ^ 7) 8
     (omega arith) (omega (arith, fit.slot, fit.out)) fit.port
 
-slot_field : (cores by kind : ℕ) (f : Fields) → Fit f → word_of cores by kind f / 2 ^ 3 % 16 ≡ f.slot
+slot_field : (cores by kind : ℕ) (f : Fields) → Fit f → packed_fields cores by kind f / 2 ^ 3 % 16 ≡ f.slot
 slot_field cores by kind f fit =
-    field_of (word_of cores by kind f) (cores * 2 ^ 19 + by * 2 ^ 13 + kind * 2 ^ 9 + f.tile * 2 ^ 3 + f.port) f.slot f.out (2 ^ 3) 16
+    field_of (packed_fields cores by kind f) (cores * 2 ^ 19 + by * 2 ^ 13 + kind * 2 ^ 9 + f.tile * 2 ^ 3 + f.port) f.slot f.out (2 ^ 3) 16
     (omega arith) (omega (arith, fit.out)) fit.slot
 
-out_field : (cores by kind : ℕ) (f : Fields) → Fit f → word_of cores by kind f % 8 ≡ f.out
+out_field : (cores by kind : ℕ) (f : Fields) → Fit f → packed_fields cores by kind f % 8 ≡ f.out
 out_field cores by kind f fit =
     let high = cores * 2 ^ 23 + by * 2 ^ 17 + kind * 2 ^ 13 + f.tile * 2 ^ 7 + f.port * 2 ^ 4 + f.slot in
-    let split : word_of cores by kind f ≡ high * 8 + f.out = omega arith in
+    let split : packed_fields cores by kind f ≡ high * 8 + f.out = omega arith in
     rw split (mod-mul-add high 8 f.out fit.out)
 
 low_fits : (f : Fields) → Fit f → f.tile * 2 ^ 10 + f.port * 2 ^ 7 + f.slot * 2 ^ 3 + f.out < 2 ^ 16
 low_fits f fit = omega (arith, fit.tile, fit.port, fit.slot, fit.out)
 
-kind_field : (cores by kind : ℕ) (f : Fields) → Fit f → kind < 16 → word_of cores by kind f / 2 ^ 16 % 16 ≡ kind
+kind_field : (cores by kind : ℕ) (f : Fields) → Fit f → kind < 16 → packed_fields cores by kind f / 2 ^ 16 % 16 ≡ kind
 kind_field cores by kind f fit h =
-    field_of (word_of cores by kind f) (cores * 2 ^ 6 + by) kind (f.tile * 2 ^ 10 + f.port * 2 ^ 7 + f.slot * 2 ^ 3 + f.out) (2 ^ 16) 16
+    field_of (packed_fields cores by kind f) (cores * 2 ^ 6 + by) kind (f.tile * 2 ^ 10 + f.port * 2 ^ 7 + f.slot * 2 ^ 3 + f.out) (2 ^ 16) 16
     (omega arith) (low_fits f fit) h
 
-by_field : (cores by kind : ℕ) (f : Fields) → Fit f → kind < 16 → by < 64 → word_of cores by kind f / 2 ^ 20 % 64 ≡ by
+by_field : (cores by kind : ℕ) (f : Fields) → Fit f → kind < 16 → by < 64 → packed_fields cores by kind f / 2 ^ 20 % 64 ≡ by
 by_field cores by kind f fit h b =
-    field_of (word_of cores by kind f) cores by (kind * 2 ^ 16 + (f.tile * 2 ^ 10 + f.port * 2 ^ 7 + f.slot * 2 ^ 3 + f.out)) (2 ^ 20) 64
+    field_of (packed_fields cores by kind f) cores by (kind * 2 ^ 16 + (f.tile * 2 ^ 10 + f.port * 2 ^ 7 + f.slot * 2 ^ 3 + f.out)) (2 ^ 20) 64
     (omega arith) (omega (arith, low_fits f fit, h)) b
 
-cores_field : (cores by kind : ℕ) (f : Fields) → Fit f → kind < 16 → by < 64 → cores < 64 → word_of cores by kind f / 2 ^ 26 % 64 ≡ cores
+cores_field : (cores by kind : ℕ) (f : Fields) → Fit f → kind < 16 → by < 64 → cores < 64 → packed_fields cores by kind f / 2 ^ 26 % 64 ≡ cores
 cores_field cores by kind f fit h b c =
-    field_of (word_of cores by kind f) 0 cores (by * 2 ^ 20 + kind * 2 ^ 16 + (f.tile * 2 ^ 10 + f.port * 2 ^ 7 + f.slot * 2 ^ 3 + f.out)) (2 ^ 26) 64
+    field_of (packed_fields cores by kind f) 0 cores (by * 2 ^ 20 + kind * 2 ^ 16 + (f.tile * 2 ^ 10 + f.port * 2 ^ 7 + f.slot * 2 ^ 3 + f.out)) (2 ^ 26) 64
     (omega arith) (omega (arith, low_fits f fit, h, b)) c
 
 -- a valid entry is found in its packed word
 pub entry_near-packed : (entry : Entry) → IsValid entry → entry_near (packed entry) ≡ Some entry
 entry_near-packed entry valid =
-    let form = form_of entry.event in
+    let form = event_form entry.event in
     let f = fields_of form.operands in
     let fit = fields_fit entry.event valid.event in
     let k = number-lt entry.event in

@@ -15,8 +15,8 @@ use Rattle.report_text.specs.declared.finish.Finish.{Finish}
 use Rattle.report_text.specs.declared.finish.Finish.TheVariants.{Finished, Budget}
 use Rattle.report_text.specs.declared.report.Report.{Report}
 use Rattle.report_text.specs.Accesses.{is_read_modify_write}
-use Rattle.report_text.specs.Events.{event_words, IsWithin}
-use Rattle.report_text.specs.Lines.{is_line_feed, text_of, without_empty_end, lines_of, line_of}
+use Rattle.report_text.specs.Events.{event_words, IsWithinLimits}
+use Rattle.report_text.specs.Lines.{is_line_feed, text_of_lines, without_empty_end, lines_of, joined_words}
 use Rattle.report_text.specs.Reading.{Tells, is_passed}
 use Rattle.report_text.specs.Report.{request_rows, tile_rows, access_rows, memory_rows, memory_lines, event_rows, event_line, count_row, request_part, tile_part, access_part, memory_part, count_part, journal_part, finish_part, joined, report_lines, report_text}
 use Rattle.report_text.specs.Rows.{count_words, request_words, tile_words, access_words, memory_words, finish_words, kind_word, access_kind_word}
@@ -24,7 +24,7 @@ use Rattle.report_text.specs.Scanning.{words_of, event_said}
 use Rattle.report_text.proofs.EventLines.{plain-from_test, event_words-plain, words_of-event_line}
 use Rattle.report_text.proofs.ReadLines.{Tells-nothing, Tells-both, Tells-event, Tells-passed}
 use Rattle.report_text.proofs.Said.{event_said-event_words}
-use Rattle.report_text.proofs.Words.{IsPlain, ArePlain, decimal-plain, line_of-feedless}
+use Rattle.report_text.proofs.Words.{IsPlain, ArePlain, decimal-plain, joined_words-feedless}
 
 -- ---- text and lines
 
@@ -32,19 +32,19 @@ abbrev IsFeedless : List ℕ → Type 0
 IsFeedless line = All (λ byte. is_line_feed byte ≡ false) line
 
 -- the parts of a text between its line feeds
-parts_of-text_of : (lines : List (List ℕ)) → AllByRecursion IsFeedless lines → slice_split is_line_feed (text_of lines) ≡ lines ++ [] ∷ []
-parts_of-text_of [] all = refl
-parts_of-text_of (line ∷ lines) all =
-    ap (slice_split is_line_feed) (append_assoc line (10 ∷ []) (text_of lines))
-    ∙ slice_split_at is_line_feed line 10 (text_of lines) all.0 refl ∙ ap (λ (parts : List (List ℕ)). line ∷ parts) (parts_of-text_of lines all.1)
+parts_of-text_of_lines : (lines : List (List ℕ)) → AllByRecursion IsFeedless lines → slice_split is_line_feed (text_of_lines lines) ≡ lines ++ [] ∷ []
+parts_of-text_of_lines [] all = refl
+parts_of-text_of_lines (line ∷ lines) all =
+    ap (slice_split is_line_feed) (append_assoc line (10 ∷ []) (text_of_lines lines))
+    ∙ slice_split_at is_line_feed line 10 (text_of_lines lines) all.0 refl ∙ ap (λ (parts : List (List ℕ)). line ∷ parts) (parts_of-text_of_lines lines all.1)
 
 without_empty_end-append : (lines : List (List ℕ)) → without_empty_end (lines ++ [] ∷ []) ≡ lines
 without_empty_end-append [] = refl
 without_empty_end-append (line ∷ []) = refl
 without_empty_end-append (line ∷ next ∷ lines) = ap (λ (ls : List (List ℕ)). line ∷ ls) (without_empty_end-append (next ∷ lines))
 
-lines_of-text_of : (lines : List (List ℕ)) → AllByRecursion IsFeedless lines → lines_of (text_of lines) ≡ lines
-lines_of-text_of lines all = ap without_empty_end (parts_of-text_of lines all) ∙ without_empty_end-append lines
+lines_of-text_of_lines : (lines : List (List ℕ)) → AllByRecursion IsFeedless lines → lines_of (text_of_lines lines) ≡ lines
+lines_of-text_of_lines lines all = ap without_empty_end (parts_of-text_of_lines lines all) ∙ without_empty_end-append lines
 
 -- ---- lines that have no line feed and tell these events
 
@@ -63,9 +63,9 @@ IsRead-both : (lines more : List (List ℕ)) (events next : List Event) → IsRe
 IsRead-both lines more events next a b = record { feedless = both_feedless lines more a.feedless b.feedless; tells = Tells-both lines more events next a.tells b.tells }
 
 -- a line that is passed over
-row : (words : List (List ℕ)) (rest : List (List ℕ)) (events : List Event) → ArePlain words → is_passed (line_of words) ≡ true → IsRead rest events → IsRead (line_of words ∷ rest) events
+row : (words : List (List ℕ)) (rest : List (List ℕ)) (events : List Event) → ArePlain words → is_passed (joined_words words) ≡ true → IsRead rest events → IsRead (joined_words words ∷ rest) events
 row words rest events plain passed read =
-    IsRead-both (line_of words ∷ []) rest [] events (record { feedless = (line_of-feedless words plain, tt); tells = Tells-passed (line_of words) passed }) read
+    IsRead-both (joined_words words ∷ []) rest [] events (record { feedless = (joined_words-feedless words plain, tt); tells = Tells-passed (joined_words words) passed }) read
 
 -- ---- the lines of each kind
 
@@ -114,17 +114,17 @@ memory_rows-read line [] = IsRead-nothing
 memory_rows-read line (words ∷ lines) =
     row (memory_words line words) (memory_rows (line + 1) lines) [] (plain-from_test (codes "m") refl, (decimal-plain line, decimals-plain words)) refl (memory_rows-read (line + 1) lines)
 
-event_rows-read : (events : List Event) → AllByRecursion IsWithin events → IsRead (event_rows events) events
+event_rows-read : (events : List Event) → AllByRecursion IsWithinLimits events → IsRead (event_rows events) events
 event_rows-read [] within = IsRead-nothing
 event_rows-read (e ∷ events) within =
     IsRead-both (event_line e ∷ []) (event_rows events) (e ∷ []) events
-    (record { feedless = (line_of-feedless (event_words e) (event_words-plain e), tt); tells = Tells-event (event_line e) e within.0 refl }) (event_rows-read events within.1)
+    (record { feedless = (joined_words-feedless (event_words e) (event_words-plain e), tt); tells = Tells-event (event_line e) e within.0 refl }) (event_rows-read events within.1)
 
 finish-read : (finish : Finish) → IsRead (finish_part finish) []
 finish-read Finished = row (finish_words Finished) [] [] (plain-from_test (codes "ended") refl, (plain-from_test (codes "finished") refl, tt)) refl IsRead-nothing
 finish-read Budget = row (finish_words Budget) [] [] (plain-from_test (codes "ended") refl, (plain-from_test (codes "budget") refl, tt)) refl IsRead-nothing
 
--- a list behind its count
+-- a list after its count
 part-read : (word : List ℕ) (n : ℕ) (rows : List (List ℕ)) (events : List Event) → IsPlain word → is_passed (count_row word n) ≡ true → IsRead rows events → IsRead (count_row word n ∷ rows) events
 part-read word n rows events plain passed read = row (count_words word n) rows events (count_plain word n plain) passed read
 
@@ -135,19 +135,19 @@ counts-read windows hops =
     part-read (codes "windows") windows (count_row (codes "hops") hops ∷ []) [] (plain-from_test (codes "windows") refl) refl
     (part-read (codes "hops") hops [] [] (plain-from_test (codes "hops") refl) refl IsRead-nothing)
 
-journal-read : (events : List Event) → AllByRecursion IsWithin events → IsRead (journal_part events) events
+journal-read : (events : List Event) → AllByRecursion IsWithinLimits events → IsRead (journal_part events) events
 journal-read events within = part-read (codes "journal") (length events) (event_rows events) events (plain-from_test (codes "journal") refl) refl (event_rows-read events within)
 
 -- some parts that tell no event, before others
 before : (part rest : List (List ℕ)) (events : List Event) → IsRead part [] → IsRead rest events → IsRead (part ++ rest) events
 before part rest events a b = IsRead-both part rest [] events a b
 
-end-read : (events : List Event) (finish : Finish) → AllByRecursion IsWithin events → IsRead (joined (journal_part events ∷ finish_part finish ∷ [])) events
+end-read : (events : List Event) (finish : Finish) → AllByRecursion IsWithinLimits events → IsRead (joined (journal_part events ∷ finish_part finish ∷ [])) events
 end-read events finish within =
     subst (IsRead (joined (journal_part events ∷ finish_part finish ∷ []))) (append-nil events)
     (IsRead-both (journal_part events) (finish_part finish ++ []) events [] (journal-read events within) (before (finish_part finish) [] [] (finish-read finish) IsRead-nothing))
 
-report_lines-read : (r : Report) → AllByRecursion IsWithin r.journal → IsRead (report_lines r) r.journal
+report_lines-read : (r : Report) → AllByRecursion IsWithinLimits r.journal → IsRead (report_lines r) r.journal
 report_lines-read r within =
     let end = journal_part r.journal ∷ finish_part r.ended ∷ [] in
     let counts = count_part r.windows r.hops ∷ end in
@@ -161,15 +161,15 @@ report_lines-read r within =
     before (count_part r.windows r.hops) (joined end) r.journal (counts-read r.windows r.hops) (end-read r.journal r.ended within)))))
 
 -- the text of a report tells its journal
-pub report_text-tells : (r : Report) → AllByRecursion IsWithin r.journal → Tells (lines_of (report_text r)) r.journal
-report_text-tells r within = let read = report_lines-read r within in subst (λ lines. Tells lines r.journal) (sym (lines_of-text_of (report_lines r) read.feedless)) read.tells
+pub report_text-tells : (r : Report) → AllByRecursion IsWithinLimits r.journal → Tells (lines_of (report_text r)) r.journal
+report_text-tells r within = let read = report_lines-read r within in subst (λ lines. Tells lines r.journal) (sym (lines_of-text_of_lines (report_lines r) read.feedless)) read.tells
 
 -- ---- lines tell one list of events
 
 some_inverse : (a b : Event) → Some a ≡ Some b → a ≡ b
 some_inverse a b e = cc
 
-event_line-inverse : (a b : Event) → IsWithin a → IsWithin b → event_line a ≡ event_line b → a ≡ b
+event_line-inverse : (a b : Event) → IsWithinLimits a → IsWithinLimits b → event_line a ≡ event_line b → a ≡ b
 event_line-inverse a b wa wb e =
     let words : event_words a ≡ event_words b = sym (words_of-event_line a) ∙ ap words_of e ∙ words_of-event_line b in
     some_inverse a b (sym (event_said-event_words a wa) ∙ ap event_said words ∙ event_said-event_words b wb)
@@ -180,7 +180,7 @@ heads_equal a b more rest e = cc
 tails_equal : (a b : List ℕ) (more rest : List (List ℕ)) → a ∷ more ≡ b ∷ rest → more ≡ rest
 tails_equal a b more rest e = cc
 
-lines_inverse : (xs ys : List Event) → AllByRecursion IsWithin xs → AllByRecursion IsWithin ys → map event_line xs ≡ map event_line ys → xs ≡ ys
+lines_inverse : (xs ys : List Event) → AllByRecursion IsWithinLimits xs → AllByRecursion IsWithinLimits ys → map event_line xs ≡ map event_line ys → xs ≡ ys
 lines_inverse [] [] wx wy e = refl
 lines_inverse [] (y ∷ ys) wx wy e = absurd cc
 lines_inverse (x ∷ xs) [] wx wy e = absurd cc
@@ -191,7 +191,7 @@ pub Tells-same : (lines : List (List ℕ)) (a b : List Event) → Tells lines a 
 Tells-same lines a b ta tb = lines_inverse a b ta.within tb.within (sym ta.told ∙ tb.told)
 
 -- the journal, and nothing else
-pub journal_is_told : (r : Report) → AllByRecursion IsWithin r.journal → (events : List Event) → Tells (lines_of (report_text r)) events ↔ (events ≡ r.journal)
+pub journal_is_told : (r : Report) → AllByRecursion IsWithinLimits r.journal → (events : List Event) → Tells (lines_of (report_text r)) events ↔ (events ≡ r.journal)
 journal_is_told r within events =
     let own = report_text-tells r within in
     (λ told. Tells-same _ events r.journal told own, λ same. subst (λ es. Tells (lines_of (report_text r)) es) (sym same) own)

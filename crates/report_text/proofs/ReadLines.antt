@@ -9,9 +9,9 @@ use Rattle.std.proofs.lemmas.List.Elements.{filter-append}
 use Rattle.std.proofs.lemmas.List.Splits.{slice_split_first, length-slice_split}
 use Rattle.std.proofs.lemmas.Slice.Eq.{bytes_eq-Decides}
 use Rattle.report_text.specs.declared.event.Event.{Event}
-use Rattle.report_text.specs.Events.{IsWithin}
+use Rattle.report_text.specs.Events.{IsWithinLimits}
 use Rattle.report_text.specs.Lines.{is_line_feed, without_empty_end, lines_of}
-use Rattle.report_text.specs.Reading.{first_word, passed_words, is_passed, begins_with_e, IsGood, Tells, IsFirstBad}
+use Rattle.report_text.specs.Reading.{first_word, passed_words, is_passed, begins_with_e, IsGood, Tells, IsFirstBadLine}
 use Rattle.report_text.specs.Report.{event_line}
 
 -- ---- the first line of a text
@@ -61,7 +61,7 @@ both : (P : List ℕ → Type 0) (xs ys : List (List ℕ)) → AllByRecursion P 
 both P [] ys a b = b
 both P (x ∷ xs) ys a b = (a.0, both P xs ys a.1 b)
 
-both_within : (xs ys : List Event) → AllByRecursion IsWithin xs → AllByRecursion IsWithin ys → AllByRecursion IsWithin (xs ++ ys)
+both_within : (xs ys : List Event) → AllByRecursion IsWithinLimits xs → AllByRecursion IsWithinLimits ys → AllByRecursion IsWithinLimits (xs ++ ys)
 both_within [] ys a b = b
 both_within (x ∷ xs) ys a b = (a.0, both_within xs ys a.1 b)
 
@@ -77,7 +77,7 @@ Tells-both lines more events next a b =
     }
 
 -- the line of an event
-pub Tells-event : (line : List ℕ) (e : Event) → IsWithin e → line ≡ event_line e → Tells (line ∷ []) (e ∷ [])
+pub Tells-event : (line : List ℕ) (e : Event) → IsWithinLimits e → line ≡ event_line e → Tells (line ∷ []) (e ∷ [])
 Tells-event line e within same =
     subst (λ l. Tells (l ∷ []) (e ∷ [])) (sym same) (record { told = refl; within = (within, tt); good = (inr (e, within, refl), tt) })
 
@@ -114,7 +114,7 @@ HasRead-line lines left number events line rest next first read tells =
     }
 
 -- a bad line
-pub HasRead-bad : (lines left : List (List ℕ)) (number : ℕ) (events : List Event) (line : List ℕ) (rest : List (List ℕ)) → left ≡ line ∷ rest → HasRead lines number events left → (IsGood line → ⊥) → IsFirstBad lines (number + 1)
+pub HasRead-bad : (lines left : List (List ℕ)) (number : ℕ) (events : List Event) (line : List ℕ) (rest : List (List ℕ)) → left ≡ line ∷ rest → HasRead lines number events left → (IsGood line → ⊥) → IsFirstBadLine lines (number + 1)
 HasRead-bad lines left number events line rest first read bad =
     record {
       before = read.before;

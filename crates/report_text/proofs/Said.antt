@@ -11,8 +11,8 @@ use Rattle.report_text.specs.declared.event.Event.{Event}
 use Rattle.report_text.specs.declared.event.Event.TheVariants.{Tick, Core, Inject, Post, Take, Eject, Send, Hop, DataHop, DataEject}
 use Rattle.report_text.specs.declared.operands.Operands.{Operands}
 use Rattle.report_text.specs.declared.operands.Operands.TheVariants.{Nothing, Tile, Channel, Way}
-use Rattle.report_text.specs.Events.{form_of, port_word, operand_words, event_words, AreWithin, IsWithin}
-use Rattle.report_text.specs.Scanning.{tile_said, slot_said, all_ports, sides, port_said, channel_said, operands_said, events_with, event_named, event_said}
+use Rattle.report_text.specs.Events.{event_form, port_word, operand_words, event_words, AreWithin, IsWithinLimits}
+use Rattle.report_text.specs.Scanning.{tile_said, slot_said, all_ports, output_ports, port_said, channel_said, operands_said, events_with, event_named, event_said}
 use Rattle.report_text.proofs.Numbers.{decimal-up_to, up_to-decimal, none_some}
 
 -- what is found is one of the list, and passes
@@ -56,7 +56,7 @@ port_said-port_word W = refl
 port_said-port_word N = refl
 port_said-port_word S = refl
 
-side_said-port_word : (p : Port) → p ≢ L → port_said sides (port_word p) ≡ Some p
+side_said-port_word : (p : Port) → p ≢ L → port_said output_ports (port_word p) ≡ Some p
 unfolding port_said
 side_said-port_word L side = absurd (side refl)
 side_said-port_word E side = refl
@@ -64,11 +64,11 @@ side_said-port_word W side = refl
 side_said-port_word N side = refl
 side_said-port_word S side = refl
 
-abbrev IsSide : Port → Type 0
-IsSide p = p ≢ L
+abbrev IsOutputPort : Port → Type 0
+IsOutputPort p = p ≢ L
 
-are_sides : AllByRecursion IsSide sides
-are_sides = (λ e. absurd cc, (λ e. absurd cc, (λ e. absurd cc, (λ e. absurd cc, tt))))
+are_output_ports : AllByRecursion IsOutputPort output_ports
+are_output_ports = (λ e. absurd cc, (λ e. absurd cc, (λ e. absurd cc, (λ e. absurd cc, tt))))
 
 -- ---- operands
 
@@ -138,7 +138,7 @@ operand_words-operands_said (r ∷ port ∷ slot ∷ []) o e =
 operand_words-operands_said (r ∷ port ∷ slot ∷ out ∷ []) o e =
     let channel = channel_said-channel _ r port slot o e in
     let step = went_on _ _ _ channel.made in
-    let side = port_said-named sides IsSide out step.found are_sides step.was in
+    let side = port_said-named output_ports IsOutputPort out step.found are_output_ports step.was in
     subst (AreWordsOf (r ∷ port ∷ slot ∷ out ∷ [])) (some_inverse _ _ step.then)
     (record {
       within = (channel.tile_within, channel.place_within, side.0);
@@ -148,7 +148,7 @@ operand_words-operands_said (r ∷ port ∷ slot ∷ out ∷ next ∷ more) o e 
 
 -- ---- events
 
-event_named-word : (e : Event) → event_named (form_of e).word (events_with (form_of e).operands) ≡ Some e
+event_named-word : (e : Event) → event_named (event_form e).word (events_with (event_form e).operands) ≡ Some e
 unfolding event_named
 event_named-word Tick = refl
 event_named-word (Core t) = refl
@@ -162,7 +162,7 @@ event_named-word (DataHop r port slot) = refl
 event_named-word (DataEject r port slot) = refl
 
 abbrev Names : Operands → Event → Type 0
-Names o e = (form_of e).operands ≡ o
+Names o e = (event_form e).operands ≡ o
 
 all_name : (o : Operands) → AllByRecursion (Names o) (events_with o)
 all_name Nothing = (refl, tt)
@@ -171,20 +171,20 @@ all_name (Channel r port slot) = (refl, (refl, tt))
 all_name (Way r port slot out) = (refl, tt)
 
 -- the event that is found has this word and these operands
-word-event_named : (word : List ℕ) (o : Operands) (e : Event) → event_named word (events_with o) ≡ Some e → ((form_of e).operands ≡ o) × (word ≡ (form_of e).word)
+word-event_named : (word : List ℕ) (o : Operands) (e : Event) → event_named word (events_with o) ≡ Some e → ((event_form e).operands ≡ o) × (word ≡ (event_form e).word)
 unfolding event_named
 word-event_named word o e h =
-    let found = find-found (Names o) (λ x. bytes_eq word (form_of x).word) (events_with o) e (all_name o) h in
-    (found.holds, (bytes_eq-Decides word (form_of e).word).0 found.passes)
+    let found = find-found (Names o) (λ x. bytes_eq word (event_form x).word) (events_with o) e (all_name o) h in
+    (found.holds, (bytes_eq-Decides word (event_form e).word).0 found.passes)
 
 -- the words of an event within the limits say it
-pub event_said-event_words : (e : Event) → IsWithin e → event_said (event_words e) ≡ Some e
+pub event_said-event_words : (e : Event) → IsWithinLimits e → event_said (event_words e) ≡ Some e
 unfolding event_said
-event_said-event_words e within = rw (operands_said-operand_words (form_of e).operands within, event_named-word e) refl
+event_said-event_words e within = rw (operands_said-operand_words (event_form e).operands within, event_named-word e) refl
 
 -- words that say an event are its words
 pub record AreWordsOfEvent (words : List (List ℕ)) (e : Event) : Type 0 where
-  pub within : IsWithin e
+  pub within : IsWithinLimits e
   pub words_are : words ≡ event_words e
 
 pub event_words-event_said : (words : List (List ℕ)) (e : Event) → event_said words ≡ Some e → AreWordsOfEvent words e
@@ -203,6 +203,6 @@ event_words-event_said (first ∷ word ∷ words) e h = by_first (bytes_eq first
           words_are =
               ap (λ (w : List ℕ). w ∷ word ∷ words) ((bytes_eq-Decides first (codes "e")).0 same)
               ∙ ap (λ (w : List ℕ). codes "e" ∷ w ∷ words) named.1
-              ∙ ap (λ (ws : List (List ℕ)). codes "e" ∷ (form_of e).word ∷ ws) (operands.words_are ∙ ap operand_words (sym named.0));
+              ∙ ap (λ (ws : List (List ℕ)). codes "e" ∷ (event_form e).word ∷ ws) (operands.words_are ∙ ap operand_words (sym named.0));
         }
     by_first false other said = absurd (none_some e said)

@@ -5,7 +5,7 @@ use Rattle.report_text.specs.declared.entry.Entry.{Entry}
 use Rattle.report_text.specs.declared.operands.Fields.{Fields}
 use Rattle.report_text.specs.declared.operands.Operands.{Operands}
 use Rattle.report_text.specs.declared.operands.Operands.TheVariants.{Nothing, Tile, Channel, Way}
-use Rattle.report_text.specs.Events.{form_of, IsWithin}
+use Rattle.report_text.specs.Events.{event_form, IsWithinLimits}
 
 -- the fields of what an event names; those that it lacks are 0
 abbrev pub fields_of : Operands → Fields
@@ -14,15 +14,15 @@ fields_of (Tile t) = record { tile = t; port = 0; slot = 0; out = 0 }
 fields_of (Channel r port slot) = record { tile = r; port = port_number port; slot = slot; out = 0 }
 fields_of (Way r port slot out) = record { tile = r; port = port_number port; slot = slot; out = port_number out }
 
--- the word of these fields behind those of the entry: its own events, its tile and its event's kind
-abbrev pub word_of : ℕ → ℕ → ℕ → Fields → ℕ
-word_of cores by kind f = cores * 2 ^ 26 + by * 2 ^ 20 + kind * 2 ^ 16 + f.tile * 2 ^ 10 + f.port * 2 ^ 7 + f.slot * 2 ^ 3 + f.out
+-- the word of these fields after those of the entry: its own events, its tile and its event's kind
+abbrev pub packed_fields : ℕ → ℕ → ℕ → Fields → ℕ
+packed_fields cores by kind f = cores * 2 ^ 26 + by * 2 ^ 20 + kind * 2 ^ 16 + f.tile * 2 ^ 10 + f.port * 2 ^ 7 + f.slot * 2 ^ 3 + f.out
 
 abbrev pub packed : Entry → ℕ
-packed entry = word_of entry.cores entry.by (form_of entry.event).number (fields_of (form_of entry.event).operands)
+packed entry = packed_fields entry.cores entry.by (event_form entry.event).number (fields_of (event_form entry.event).operands)
 
 -- an entry that has a packed word
 pub record IsValid (entry : Entry) : Type 0 where
   pub tile : entry.by ≤ 63
   pub cores : entry.cores ≤ 16
-  pub event : IsWithin entry.event
+  pub event : IsWithinLimits entry.event

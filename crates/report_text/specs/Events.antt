@@ -8,23 +8,23 @@ use Rattle.report_text.specs.declared.event.Event.TheVariants.{Tick, Core, Injec
 use Rattle.report_text.specs.declared.operands.Operands.{Operands}
 use Rattle.report_text.specs.declared.operands.Operands.TheVariants.{Nothing, Tile, Channel, Way}
 
-pub record Form : Type 0 where
+pub record EventForm : Type 0 where
   pub word : List ℕ
   pub number : ℕ
   pub operands : Operands
 
 -- the table
-abbrev pub form_of : Event → Form
-form_of Tick = record { word = codes "tick"; number = 0; operands = Nothing }
-form_of (Core t) = record { word = codes "core"; number = 1; operands = Tile t }
-form_of (Inject t) = record { word = codes "inject"; number = 2; operands = Tile t }
-form_of (Post t) = record { word = codes "post"; number = 3; operands = Tile t }
-form_of (Take t) = record { word = codes "take"; number = 4; operands = Tile t }
-form_of (Eject t) = record { word = codes "eject"; number = 5; operands = Tile t }
-form_of (Send t) = record { word = codes "send"; number = 6; operands = Tile t }
-form_of (Hop r port slot out) = record { word = codes "hop"; number = 7; operands = Way r port slot out }
-form_of (DataHop r port slot) = record { word = codes "datahop"; number = 8; operands = Channel r port slot }
-form_of (DataEject r port slot) = record { word = codes "dataeject"; number = 9; operands = Channel r port slot }
+abbrev pub event_form : Event → EventForm
+event_form Tick = record { word = codes "tick"; number = 0; operands = Nothing }
+event_form (Core t) = record { word = codes "core"; number = 1; operands = Tile t }
+event_form (Inject t) = record { word = codes "inject"; number = 2; operands = Tile t }
+event_form (Post t) = record { word = codes "post"; number = 3; operands = Tile t }
+event_form (Take t) = record { word = codes "take"; number = 4; operands = Tile t }
+event_form (Eject t) = record { word = codes "eject"; number = 5; operands = Tile t }
+event_form (Send t) = record { word = codes "send"; number = 6; operands = Tile t }
+event_form (Hop r port slot out) = record { word = codes "hop"; number = 7; operands = Way r port slot out }
+event_form (DataHop r port slot) = record { word = codes "datahop"; number = 8; operands = Channel r port slot }
+event_form (DataEject r port slot) = record { word = codes "dataeject"; number = 9; operands = Channel r port slot }
 
 abbrev pub port_word : Port → List ℕ
 port_word L = codes "l"
@@ -41,7 +41,7 @@ operand_words (Way r port slot out) = decimal r ∷ port_word port ∷ decimal s
 
 -- the words of an event's line
 abbrev pub event_words : Event → List (List ℕ)
-event_words e = codes "e" ∷ (form_of e).word ∷ operand_words (form_of e).operands
+event_words e = codes "e" ∷ (event_form e).word ∷ operand_words (event_form e).operands
 
 -- tiles and routers up to 63, slots up to 15, and a way that leaves the router
 abbrev pub AreWithin : Operands → Type 0
@@ -51,5 +51,5 @@ AreWithin (Channel r port slot) = (r ≤ 63) × (slot ≤ 15)
 AreWithin (Way r port slot out) = (r ≤ 63) × (slot ≤ 15) × (out ≢ L)
 
 -- an event within these limits, which a packed word has room for
-abbrev pub IsWithin : Event → Type 0
-IsWithin e = AreWithin (form_of e).operands
+abbrev pub IsWithinLimits : Event → Type 0
+IsWithinLimits e = AreWithin (event_form e).operands

@@ -2,29 +2,29 @@
 use Rattle.std.specs.Prelude.{ℕ, ◌==◌, Bool, List, [], ◌∷◌, ◌++◌, length, if◌then◌else◌}
 use Rattle.std.specs.List.{flat_map, slice_split}
 
-abbrev pub is_blank : ℕ → Bool
-is_blank byte = byte == 32
+abbrev pub is_space : ℕ → Bool
+is_space byte = byte == 32
 
--- words, each behind a blank
-abbrev pub behind_blanks : List (List ℕ) → List ℕ
-behind_blanks words = flat_map (λ word. 32 ∷ word) words
+-- words, each after a space
+abbrev pub after_spaces : List (List ℕ) → List ℕ
+after_spaces words = flat_map (λ word. 32 ∷ word) words
 
--- the line of these words, with a blank between each two
-abbrev pub line_of : List (List ℕ) → List ℕ
-line_of [] = []
-line_of (word ∷ words) = word ++ behind_blanks words
+-- the line of these words, with a space between each two
+abbrev pub joined_words : List (List ℕ) → List ℕ
+joined_words [] = []
+joined_words (word ∷ words) = word ++ after_spaces words
 
 abbrev pub ended : List ℕ → List ℕ
 ended line = line ++ 10 ∷ []
 
 -- each line with its line feed
-abbrev pub text_of : List (List ℕ) → List ℕ
-text_of lines = flat_map ended lines
+abbrev pub text_of_lines : List (List ℕ) → List ℕ
+text_of_lines lines = flat_map ended lines
 
 abbrev pub is_line_feed : ℕ → Bool
 is_line_feed byte = byte == 10
 
--- no line stands behind the last line feed where nothing does
+-- no line stands after the last line feed where nothing does
 abbrev pub without_empty_end : List (List ℕ) → List (List ℕ)
 without_empty_end [] = []
 without_empty_end (part ∷ []) = if length part == 0 then [] else part ∷ []

@@ -3,15 +3,15 @@ use Rattle.std.specs.Prelude.{◌≡◌, ℕ, ◌+◌, Bool, ◌⊎◌, IsTrue, 
 use Rattle.std.specs.List.{before_first, list_any, AllByRecursion}
 use Rattle.std.specs.Str.{bytes_eq}
 use Rattle.report_text.specs.declared.event.Event.{Event}
-use Rattle.report_text.specs.Events.{IsWithin}
+use Rattle.report_text.specs.Events.{IsWithinLimits}
 use Rattle.report_text.specs.declared.fault.LinesEnd.{LinesEnd}
 use Rattle.report_text.specs.declared.fault.LinesEnd.TheVariants.{EventFault, NoMemory}
-use Rattle.report_text.specs.Lines.{is_blank}
+use Rattle.report_text.specs.Lines.{is_space}
 use Rattle.report_text.specs.Report.{event_line}
 
--- what stands before a line's first blank, or the whole line
+-- what stands before a line's first space, or the whole line
 abbrev pub first_word : List ℕ → List ℕ
-first_word line = before_first is_blank line
+first_word line = before_first is_space line
 
 -- the first words of the lines with a count, and of those of the lists but the journal's
 abbrev pub count_row_words : List (List ℕ)
@@ -25,7 +25,7 @@ item_row_words = codes "q" ∷ codes "s" ∷ codes "a" ∷ codes "m" ∷ []
 abbrev pub passed_words : List (List ℕ)
 passed_words = count_row_words ++ item_row_words ++ codes "ended" ∷ []
 
--- such a line, whatever stands behind its first word
+-- such a line, whatever stands after its first word
 abbrev pub is_passed : List ℕ → Bool
 is_passed line = list_any (bytes_eq (first_word line)) passed_words
 
@@ -34,16 +34,16 @@ begins_with_e line = bytes_eq (first_word line) (codes "e")
 
 -- a line is good where it tells no event, or is the line of one within the limits
 abbrev pub IsGood : List ℕ → Type 0
-IsGood line = IsTrue (is_passed line) ⊎ ((e : Event) × IsWithin e × (line ≡ event_line e))
+IsGood line = IsTrue (is_passed line) ⊎ ((e : Event) × IsWithinLimits e × (line ≡ event_line e))
 
 -- the events that lines tell: those that begin with the word `e` are the events' lines, and the others tell none
 pub record Tells (lines : List (List ℕ)) (events : List Event) : Type 0 where
   pub told : filter begins_with_e lines ≡ map event_line events
-  pub within : AllByRecursion IsWithin events
+  pub within : AllByRecursion IsWithinLimits events
   pub good : AllByRecursion IsGood lines
 
 -- so many lines, of which the last is the first bad one
-pub record IsFirstBad (lines : List (List ℕ)) (number : ℕ) : Type 0 where
+pub record IsFirstBadLine (lines : List (List ℕ)) (number : ℕ) : Type 0 where
   pub before : List (List ℕ)
   pub line : List ℕ
   pub after : List (List ℕ)
@@ -52,7 +52,7 @@ pub record IsFirstBad (lines : List (List ℕ)) (number : ℕ) : Type 0 where
   pub good : AllByRecursion IsGood before
   pub bad : IsGood line → ⊥
 
--- lines were not read: one is the first bad one, or memory was wanting
+-- lines were not read: one is the first bad one, or out of memory
 abbrev pub IsEndOf : List (List ℕ) → LinesEnd → Type 0
-IsEndOf lines (EventFault line) = IsFirstBad lines line
+IsEndOf lines (EventFault line) = IsFirstBadLine lines line
 IsEndOf lines NoMemory = Unit {0}

@@ -8,33 +8,33 @@ use Rattle.report_text.specs.declared.event.Event.{Event}
 use Rattle.report_text.specs.declared.finish.Finish.{Finish}
 use Rattle.report_text.specs.declared.report.Report.{Report}
 use Rattle.report_text.specs.Events.{event_words}
-use Rattle.report_text.specs.Lines.{line_of, text_of}
+use Rattle.report_text.specs.Lines.{joined_words, text_of_lines}
 use Rattle.report_text.specs.Rows.{count_words, request_words, tile_words, access_words, memory_words, finish_words}
 
 -- requests from this place of the order on
 abbrev pub request_rows : ℕ → List Request → List (List ℕ)
-request_rows place requests = map (λ p. line_of (request_words p.0 p.1)) (enumerate_from place requests)
+request_rows place requests = map (λ p. joined_words (request_words p.0 p.1)) (enumerate_from place requests)
 
 -- what the tiles from this one on have seen and done
 abbrev pub tile_rows : ℕ → List ℕ → List ℕ → List (List ℕ)
-tile_rows tile seen steps = map (λ p. line_of (tile_words p.0 p.1.0 p.1.1)) (enumerate_from tile (zip seen steps))
+tile_rows tile seen steps = map (λ p. joined_words (tile_words p.0 p.1.0 p.1.1)) (enumerate_from tile (zip seen steps))
 
 abbrev pub access_rows : List Access → List (List ℕ)
-access_rows accesses = map (λ a. line_of (access_words a)) accesses
+access_rows accesses = map (λ a. joined_words (access_words a)) accesses
 
 -- lines of memory from this one on
 abbrev pub memory_rows : ℕ → List (List ℕ) → List (List ℕ)
-memory_rows line memory = map (λ p. line_of (memory_words p.0 p.1)) (enumerate_from line memory)
+memory_rows line memory = map (λ p. joined_words (memory_words p.0 p.1)) (enumerate_from line memory)
 
 abbrev pub event_line : Event → List ℕ
-event_line e = line_of (event_words e)
+event_line e = joined_words (event_words e)
 
 abbrev pub event_rows : List Event → List (List ℕ)
 event_rows events = map event_line events
 
 -- a line with a count
 abbrev pub count_row : List ℕ → ℕ → List ℕ
-count_row word count = line_of (count_words word count)
+count_row word count = joined_words (count_words word count)
 
 abbrev pub request_part : List Request → List (List ℕ)
 request_part requests = count_row (codes "requests") (length requests) ∷ request_rows 0 requests
@@ -59,9 +59,9 @@ abbrev pub journal_part : List Event → List (List ℕ)
 journal_part events = count_row (codes "journal") (length events) ∷ event_rows events
 
 abbrev pub finish_part : Finish → List (List ℕ)
-finish_part finish = line_of (finish_words finish) ∷ []
+finish_part finish = joined_words (finish_words finish) ∷ []
 
--- the lines of a report: each list behind a line with the number of its lines, and in the end how the run ended
+-- the lines of a report: each list after a line with the number of its lines, and in the end how the run ended
 abbrev pub report_parts : Report → List (List (List ℕ))
 report_parts r =
     request_part r.requests ∷ tile_part r.seen r.steps ∷ access_part r.accesses ∷ memory_part r.memory ∷ count_part r.windows r.hops
@@ -79,4 +79,4 @@ abbrev pub report_lines : Report → List (List ℕ)
 report_lines r = joined (report_parts r)
 
 abbrev pub report_text : Report → List ℕ
-report_text r = text_of (report_lines r)
+report_text r = text_of_lines (report_lines r)

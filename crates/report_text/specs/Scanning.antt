@@ -11,16 +11,16 @@ use Rattle.report_text.specs.declared.event.Event.{Event}
 use Rattle.report_text.specs.declared.event.Event.TheVariants.{Tick, Core, Inject, Post, Take, Eject, Send, Hop, DataHop, DataEject}
 use Rattle.report_text.specs.declared.operands.Operands.{Operands}
 use Rattle.report_text.specs.declared.operands.Operands.TheVariants.{Nothing, Tile, Channel, Way}
-use Rattle.report_text.specs.Events.{form_of, port_word}
-use Rattle.report_text.specs.Lines.{is_blank}
+use Rattle.report_text.specs.Events.{event_form, port_word}
+use Rattle.report_text.specs.Lines.{is_space}
 
 -- texts as the code keeps them, without where their bytes lie in memory
 abbrev pub texts_seen : List (Bor (List ℕ)) → List (List ℕ)
 texts_seen texts = map (λ text. text.now) texts
 
--- the parts of a line between its blanks
+-- the parts of a line between its spaces
 abbrev pub words_of : List ℕ → List (List ℕ)
-words_of line = slice_split is_blank line
+words_of line = slice_split is_space line
 
 abbrev pub is_one_digit : List ℕ → Bool
 is_one_digit word = length word == 1 && is_ascii_digit (slice_index word 0)
@@ -51,8 +51,8 @@ abbrev pub all_ports : List Port
 all_ports = L ∷ E ∷ W ∷ N ∷ S ∷ []
 
 -- the ports by which something leaves a router
-abbrev pub sides : List Port
-sides = E ∷ W ∷ N ∷ S ∷ []
+abbrev pub output_ports : List Port
+output_ports = E ∷ W ∷ N ∷ S ∷ []
 
 -- the port of these that a word names
 unfoldable pub port_said : List Port → List ℕ → Option Port
@@ -66,7 +66,7 @@ unfoldable pub operands_said : List (List ℕ) → Option Operands
 operands_said [] = Some Nothing
 operands_said (t ∷ []) = option_and_then (λ tile. Some (Tile tile)) (tile_said t)
 operands_said (r ∷ port ∷ slot ∷ []) = channel_said (λ t p s. Some (Channel t p s)) r port slot
-operands_said (r ∷ port ∷ slot ∷ out ∷ []) = channel_said (λ t p s. option_and_then (λ o. Some (Way t p s o)) (port_said sides out)) r port slot
+operands_said (r ∷ port ∷ slot ∷ out ∷ []) = channel_said (λ t p s. option_and_then (λ o. Some (Way t p s o)) (port_said output_ports out)) r port slot
 operands_said _ = None
 
 -- the events that name this
@@ -78,7 +78,7 @@ events_with (Way r port slot out) = Hop r port slot out ∷ []
 
 -- the one of these events whose kind has this word
 unfoldable pub event_named : List ℕ → List Event → Option Event
-event_named word events = find (λ e. bytes_eq word (form_of e).word) events
+event_named word events = find (λ e. bytes_eq word (event_form e).word) events
 
 -- the event that the words of a line say
 unfoldable pub event_said : List (List ℕ) → Option Event

@@ -9,7 +9,7 @@ use Rattle.report_text.specs.declared.event.Event.TheVariants.{Tick, Core, Injec
 use Rattle.report_text.specs.declared.finish.Finish.TheVariants.{Finished}
 use Rattle.report_text.specs.declared.report.Report.{Report}
 use Rattle.report_text.specs.Entry.{packed}
-use Rattle.report_text.specs.Lines.{lines_of, text_of}
+use Rattle.report_text.specs.Lines.{lines_of, text_of_lines}
 use Rattle.report_text.specs.Report.{access_rows, report_text}
 
 abbrev pub run_events : List Event
@@ -41,11 +41,11 @@ unfolding digits
 text_of_run = refl
 
 -- the lines of an add and of a swap end with the old word
-text_of_exchanges : text_of (access_rows (record { tile = 0; number = 1; kind = Add; address = 0; value = 13; time = 1; old = 10 } ∷ record { tile = 0; number = 2; kind = Swap; address = 0; value = 10; time = 1; old = 13 } ∷ [])) ≡ codes "a 0 1 fa 0 13 1 10\na 0 2 sw 0 10 1 13\n"
+text_of_exchanges : text_of_lines (access_rows (record { tile = 0; number = 1; kind = Add; address = 0; value = 13; time = 1; old = 10 } ∷ record { tile = 0; number = 2; kind = Swap; address = 0; value = 10; time = 1; old = 13 } ∷ [])) ≡ codes "a 0 1 fa 0 13 1 10\na 0 2 sw 0 10 1 13\n"
 unfolding digits
 text_of_exchanges = refl
 
--- a line more is no line where nothing stands behind the last line feed, and an empty line is one
+-- a line more is no line where nothing stands after the last line feed, and an empty line is one
 lines_of_texts : lines_of (codes "e tick\ne core 0") ≡ lines_of (codes "e tick\ne core 0\n")
 lines_of_texts = refl
 

@@ -34,7 +34,7 @@ pub enum Event {
     Send {
         t: u8,
     },
-    /// A request is copied to the router behind `out`.
+    /// A request is copied to the router after `out`.
     Hop {
         r: u8,
         port: Port,
@@ -56,12 +56,12 @@ pub enum Event {
 }
 
 impl Event {
-    ghost use Rattle.report_text.specs.Events.{form_of};
+    ghost use Rattle.report_text.specs.Events.{event_form};
     ghost use Rattle.report_text.specs.Unpacking.{event_numbered};
 
     /// The word of its kind.
     pub(crate) fn word(&self) -> &'static str
-        ensures { result.now ≡ (form_of self.now).word }
+        ensures { result.now ≡ (event_form self.now).word }
     {
         match self {
             Event::Tick => "tick",
@@ -79,7 +79,7 @@ impl Event {
 
     /// The number of its kind.
     pub(crate) fn number(&self) -> u8
-        ensures { result ≡ (form_of self.now).number }
+        ensures { result ≡ (event_form self.now).number }
     {
         match self {
             Event::Tick => 0,
@@ -96,7 +96,7 @@ impl Event {
     }
 
     pub(crate) fn operands(&self) -> Operands
-        ensures { result ≡ (form_of self.now).operands }
+        ensures { result ≡ (event_form self.now).operands }
     {
         match *self {
             Event::Tick => Operands::Nothing,

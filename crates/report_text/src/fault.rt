@@ -9,7 +9,7 @@ use std::alloc::AllocFailed;
 pub enum LinesEnd {
     /// This line, counted from 1, is the first bad one.
     EventFault { line: u64 },
-    /// Memory was wanting.
+    /// out of memory.
     NoMemory,
 }
 

@@ -6,7 +6,7 @@ use itoa::Buffer;
 use outside_io::{Sink, WriteFault, write_piece};
 use std::marker::Model;
 
-// Room for a word, seven numbers of up to 20 digits, a blank before each, and the line feed.
+// Room for a word, seven numbers of up to 20 digits, a space before each, and the line feed.
 const LINE_SIZE: usize = 160;
 
 /// A line that is being written, without its line feed.
@@ -36,7 +36,7 @@ impl Line {
         Line { text }
     }
 
-    /// Appends a blank and the word.
+    /// Appends a space and the word.
     pub fn push_word(&mut self, word: &str)
         requires { length self.old + length word.now < LINE_SIZE }
         ensures { self.new ≡ self.old ++ 32 ∷ word.now }
@@ -45,7 +45,7 @@ impl Line {
         self.text.push_str(word);
     }
 
-    /// Appends a blank and the number.
+    /// Appends a space and the number.
     pub fn push_number(&mut self, number: u64)
         requires { length self.old + 21 ≤ LINE_SIZE }
         ensures text { self.new ≡ self.old ++ 32 ∷ decimal number }

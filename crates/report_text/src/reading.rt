@@ -17,7 +17,7 @@ pub(crate) enum Told {
 }
 
 /// Reads the journal in the text of a report: its lines that begin with the word `e`. The text may be any bytes. A line
-/// with another word of a report at its front is passed over, whatever stands behind that word; any other line is bad.
+/// with another word of a report at its front is passed over, whatever stands after that word; any other line is bad.
 pub fn read_events(alloc: Global, text: &[u8]) -> Result<Vec<Event>, LinesEnd>
     ensures ok { IfOk result (λ events. Tells (lines_of text.now) events.items) }
     ensures fault { IfErr result (IsEndOf (lines_of text.now)) }
@@ -38,7 +38,7 @@ pub fn read_events(alloc: Global, text: &[u8]) -> Result<Vec<Event>, LinesEnd>
     Ok(events)
 }
 
-// The first line of the text, without its line feed, and what stands behind it.
+// The first line of the text, without its line feed, and what stands after it.
 fn split_line(text: &[u8]) -> (&[u8], &[u8])
     ensures line { result.0.now ≡ before_first is_line_feed text.now }
     ensures rest { result.1.now ≡ after_first is_line_feed text.now }

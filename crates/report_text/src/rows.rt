@@ -2,7 +2,7 @@
 ghost use Rattle.std.specs.Prelude.{◌≡◌, ◌<◌, ◌≤◌, ◌+◌, ◌++◌, length};
 ghost use Rattle.report_text.specs.Events.{operand_words};
 ghost use Rattle.report_text.specs.declared.operands.Operands.TheVariants.{Channel};
-ghost use Rattle.report_text.specs.Lines.{line_of, behind_blanks};
+ghost use Rattle.report_text.specs.Lines.{joined_words, after_spaces};
 ghost use Rattle.report_text.specs.Report.{count_row, event_line};
 ghost use Rattle.report_text.specs.Rows.{kind_word, access_kind_word, request_words, tile_words, access_words, memory_words, finish_words};
 
@@ -23,7 +23,7 @@ pub(crate) fn count_line(word: &str, count: u64) -> Line
 }
 
 pub(crate) fn request_line(place: u64, request: &Request) -> Line
-    ensures text { result ≡ line_of (request_words place request.now) }
+    ensures text { result ≡ joined_words (request_words place request.now) }
     ensures length { length result < 160 }
 {
     let mut line = Line::new("q");
@@ -46,7 +46,7 @@ fn kind_word(kind: Kind) -> &'static str
 }
 
 pub(crate) fn tile_line(tile: u64, seen: u64, steps: u64) -> Line
-    ensures text { result ≡ line_of (tile_words tile seen steps) }
+    ensures text { result ≡ joined_words (tile_words tile seen steps) }
     ensures length { length result < 160 }
 {
     let mut line = Line::new("s");
@@ -57,7 +57,7 @@ pub(crate) fn tile_line(tile: u64, seen: u64, steps: u64) -> Line
 }
 
 pub(crate) fn access_line(access: &Access) -> Line
-    ensures text { result ≡ line_of (access_words access.now) }
+    ensures text { result ≡ joined_words (access_words access.now) }
     ensures length { length result < 160 }
 {
     let mut line = Line::new("a");
@@ -85,7 +85,7 @@ fn access_kind_word(kind: AccessKind) -> &'static str
 }
 
 pub(crate) fn memory_line(line: u64, words: Words) -> Line
-    ensures text { result ≡ line_of (memory_words line words) }
+    ensures text { result ≡ joined_words (memory_words line words) }
     ensures length { length result < 160 }
 {
     let [a, b, c, d] = words;
@@ -110,7 +110,7 @@ pub(crate) fn event_line(event: &Event) -> Line
 
 fn push_operands(line: &mut Line, operands: Operands)
     requires { length line.old ≤ 16 }
-    ensures text { line.new ≡ line.old ++ behind_blanks (operand_words operands) }
+    ensures text { line.new ≡ line.old ++ after_spaces (operand_words operands) }
     ensures length { length line.new ≤ length line.old + 63 }
 {
     match operands {
@@ -126,7 +126,7 @@ fn push_operands(line: &mut Line, operands: Operands)
 
 fn push_channel(line: &mut Line, r: u8, port: Port, slot: u8)
     requires { length line.old ≤ 16 }
-    ensures text { line.new ≡ line.old ++ behind_blanks (operand_words (Channel r port slot)) }
+    ensures text { line.new ≡ line.old ++ after_spaces (operand_words (Channel r port slot)) }
     ensures length { length line.new ≤ length line.old + 44 }
 {
     line.push_number(u64::from(r));
@@ -135,7 +135,7 @@ fn push_channel(line: &mut Line, r: u8, port: Port, slot: u8)
 }
 
 pub(crate) fn finish_line(finish: Finish) -> Line
-    ensures text { result ≡ line_of (finish_words finish) }
+    ensures text { result ≡ joined_words (finish_words finish) }
     ensures length { length result < 160 }
 {
     let mut line = Line::new("ended");

@@ -2,8 +2,8 @@
 ghost use Rattle.std.specs.Prelude.{◌≡◌, ◌<◌, ◌↔◌, Some, length, MatchOption};
 ghost use Rattle.std.specs.List.{before_first};
 ghost use Rattle.report_text.specs.declared.event.Event.{Event};
-ghost use Rattle.report_text.specs.Events.{IsWithin};
-ghost use Rattle.report_text.specs.Lines.{is_blank};
+ghost use Rattle.report_text.specs.Events.{IsWithinLimits};
+ghost use Rattle.report_text.specs.Lines.{is_space};
 ghost use Rattle.report_text.specs.Report.{event_line};
 ghost use Rattle.report_text.specs.Scanning.{texts_seen, words_of, number_said, tile_said, slot_said, port_said, operands_said, events_with, event_named, event_said};
 
@@ -21,9 +21,9 @@ const PORTS: [Port; 5] = [Port::L, Port::E, Port::W, Port::N, Port::S];
 // The ports by which something leaves a router.
 const SIDES: [Port; 4] = [Port::E, Port::W, Port::N, Port::S];
 
-/// What stands before the line's first blank, or the whole line.
+/// What stands before the line's first space, or the whole line.
 pub(crate) fn first_word(line: &[u8]) -> &[u8]
-    ensures { result.now ≡ before_first is_blank line.now }
+    ensures { result.now ≡ before_first is_space line.now }
 {
     match line.iter().position(|byte| *byte == b' ') {
         Some(end) => line.split_at(end).0,
@@ -33,7 +33,7 @@ pub(crate) fn first_word(line: &[u8]) -> &[u8]
 
 /// The event within the limits whose line this is.
 pub(crate) fn event_in(line: &[u8]) -> Option<Event>
-    ensures { (e : Event) → (result ≡ Some e) ↔ (IsWithin e × (line.now ≡ event_line e)) }
+    ensures { (e : Event) → (result ≡ Some e) ↔ (IsWithinLimits e × (line.now ≡ event_line e)) }
 {
     said_by(split_words(line)?.as_slice())
 }

@@ -1,6 +1,6 @@
 ghost use Rattle.std.specs.Prelude.{◌≡◌, ◌≤◌, length, OnOk, OnErr};
 ghost use Rattle.outside_io.specs.Streams.{Rose, Appends, AppendsPart};
-ghost use Rattle.report_text.specs.Lines.{text_of};
+ghost use Rattle.report_text.specs.Lines.{text_of_lines};
 ghost use Rattle.report_text.specs.Report.{IsTabular, request_part, tile_part, access_part, memory_part, count_part, journal_part, report_text};
 
 use crate::rows::{
@@ -28,8 +28,8 @@ pub fn write_report<K: Sink>(report: &Report, sink: &mut K) -> Result<(), WriteF
 }
 
 fn write_requests<K: Sink>(requests: &[Request], sink: &mut K) -> Result<(), WriteFault>
-    ensures ok { OnOk result (Appends (K.held sink.old) (K.held sink.new) (text_of (request_part requests.now))) }
-    ensures err { OnErr result (AppendsPart (K.held sink.old) (K.held sink.new) (text_of (request_part requests.now))) }
+    ensures ok { OnOk result (Appends (K.held sink.old) (K.held sink.new) (text_of_lines (request_part requests.now))) }
+    ensures err { OnErr result (AppendsPart (K.held sink.old) (K.held sink.new) (text_of_lines (request_part requests.now))) }
     ensures fault { OnErr result (Rose (K.faults sink.old) (K.faults sink.new)) }
     ensures count { K.faults sink.old ≤ K.faults sink.new }
 {
@@ -42,8 +42,8 @@ fn write_requests<K: Sink>(requests: &[Request], sink: &mut K) -> Result<(), Wri
 
 fn write_tiles<K: Sink>(seen: &[u64], steps: &[u64], sink: &mut K) -> Result<(), WriteFault>
     requires { length seen.now ≡ length steps.now }
-    ensures ok { OnOk result (Appends (K.held sink.old) (K.held sink.new) (text_of (tile_part seen.now steps.now))) }
-    ensures err { OnErr result (AppendsPart (K.held sink.old) (K.held sink.new) (text_of (tile_part seen.now steps.now))) }
+    ensures ok { OnOk result (Appends (K.held sink.old) (K.held sink.new) (text_of_lines (tile_part seen.now steps.now))) }
+    ensures err { OnErr result (AppendsPart (K.held sink.old) (K.held sink.new) (text_of_lines (tile_part seen.now steps.now))) }
     ensures fault { OnErr result (Rose (K.faults sink.old) (K.faults sink.new)) }
     ensures count { K.faults sink.old ≤ K.faults sink.new }
 {
@@ -55,8 +55,8 @@ fn write_tiles<K: Sink>(seen: &[u64], steps: &[u64], sink: &mut K) -> Result<(),
 }
 
 fn write_accesses<K: Sink>(accesses: &[Access], sink: &mut K) -> Result<(), WriteFault>
-    ensures ok { OnOk result (Appends (K.held sink.old) (K.held sink.new) (text_of (access_part accesses.now))) }
-    ensures err { OnErr result (AppendsPart (K.held sink.old) (K.held sink.new) (text_of (access_part accesses.now))) }
+    ensures ok { OnOk result (Appends (K.held sink.old) (K.held sink.new) (text_of_lines (access_part accesses.now))) }
+    ensures err { OnErr result (AppendsPart (K.held sink.old) (K.held sink.new) (text_of_lines (access_part accesses.now))) }
     ensures fault { OnErr result (Rose (K.faults sink.old) (K.faults sink.new)) }
     ensures count { K.faults sink.old ≤ K.faults sink.new }
 {
@@ -68,8 +68,8 @@ fn write_accesses<K: Sink>(accesses: &[Access], sink: &mut K) -> Result<(), Writ
 }
 
 fn write_memory<K: Sink>(memory: &[u32], sink: &mut K) -> Result<(), WriteFault>
-    ensures ok { OnOk result (Appends (K.held sink.old) (K.held sink.new) (text_of (memory_part memory.now))) }
-    ensures err { OnErr result (AppendsPart (K.held sink.old) (K.held sink.new) (text_of (memory_part memory.now))) }
+    ensures ok { OnOk result (Appends (K.held sink.old) (K.held sink.new) (text_of_lines (memory_part memory.now))) }
+    ensures err { OnErr result (AppendsPart (K.held sink.old) (K.held sink.new) (text_of_lines (memory_part memory.now))) }
     ensures fault { OnErr result (Rose (K.faults sink.old) (K.faults sink.new)) }
     ensures count { K.faults sink.old ≤ K.faults sink.new }
 {
@@ -82,8 +82,8 @@ fn write_memory<K: Sink>(memory: &[u32], sink: &mut K) -> Result<(), WriteFault>
 }
 
 fn write_counts<K: Sink>(windows: u64, hops: u64, sink: &mut K) -> Result<(), WriteFault>
-    ensures ok { OnOk result (Appends (K.held sink.old) (K.held sink.new) (text_of (count_part windows hops))) }
-    ensures err { OnErr result (AppendsPart (K.held sink.old) (K.held sink.new) (text_of (count_part windows hops))) }
+    ensures ok { OnOk result (Appends (K.held sink.old) (K.held sink.new) (text_of_lines (count_part windows hops))) }
+    ensures err { OnErr result (AppendsPart (K.held sink.old) (K.held sink.new) (text_of_lines (count_part windows hops))) }
     ensures fault { OnErr result (Rose (K.faults sink.old) (K.faults sink.new)) }
     ensures count { K.faults sink.old ≤ K.faults sink.new }
 {
@@ -92,8 +92,8 @@ fn write_counts<K: Sink>(windows: u64, hops: u64, sink: &mut K) -> Result<(), Wr
 }
 
 fn write_journal<K: Sink>(events: &[Event], sink: &mut K) -> Result<(), WriteFault>
-    ensures ok { OnOk result (Appends (K.held sink.old) (K.held sink.new) (text_of (journal_part events.now))) }
-    ensures err { OnErr result (AppendsPart (K.held sink.old) (K.held sink.new) (text_of (journal_part events.now))) }
+    ensures ok { OnOk result (Appends (K.held sink.old) (K.held sink.new) (text_of_lines (journal_part events.now))) }
+    ensures err { OnErr result (AppendsPart (K.held sink.old) (K.held sink.new) (text_of_lines (journal_part events.now))) }
     ensures fault { OnErr result (Rose (K.faults sink.old) (K.faults sink.new)) }
     ensures count { K.faults sink.old ≤ K.faults sink.new }
 {

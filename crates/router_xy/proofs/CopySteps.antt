@@ -12,10 +12,10 @@ use Rattle.vc_bank.specs.Channels.{Channels, lowest_free}
 use Rattle.vc_bank.specs.Places.{Network, at, put}
 use Rattle.chip_model.specs.declared.net_copy.NetCopy.{NetCopy}
 use Rattle.chip_model.specs.Partial.{when, ◌>>=◌}
-use Rattle.chip_model.specs.Copies.{Name, name_of, channels_of, no_copies, arriving, left_by, owes, entered, entry_slot, expects, hopped, local_place, served}
-use Rattle.chip_model.specs.CopiesOwed.{IsOnTheWay, NoneComes, ComesAlone}
+use Rattle.chip_model.specs.Copies.{Name, name_of, channels_of, no_copies, arriving, left_by, owes, after_entry, entry_slot, expects, after_hop, local_place, after_serve}
+use Rattle.chip_model.specs.CopiesOwed.{HasCopies, NoneComes, ComesAlone}
 use Rattle.router_xy.specs.CopySteps.{Serves}
-use Rattle.router_xy.proofs.CopyWays.{some_is, left_request, name_is}
+use Rattle.router_xy.proofs.CopyOutputs.{some_is, left_request, name_is}
 use Rattle.router_xy.proofs.LocalPlaces.{local_stands}
 use Rattle.router_xy.proofs.Steps.{served_at}
 use Rattle.router_xy.proofs.Sound.{nothing_stands}
@@ -56,7 +56,7 @@ stood_or_put net r p i packet n q j copy stands =
     (set_cases net r written n [])
 
 -- the same of requests on their way
-way_or_put : (net : Network NetCopy) (r p i : ℕ) (packet : Option NetCopy) (q : Request) → IsOnTheWay (put net r p i packet) q → ((copy : NetCopy) × (packet ≡ Some copy) × (copy.request ≡ q)) ⊎ IsOnTheWay net q
+way_or_put : (net : Network NetCopy) (r p i : ℕ) (packet : Option NetCopy) (q : Request) → HasCopies (put net r p i packet) q → ((copy : NetCopy) × (packet ≡ Some copy) × (copy.request ≡ q)) ⊎ HasCopies net q
 way_or_put net r p i packet q on = ⊎_elim
     (λ here. inl (on.there.copy, here, on.there.is))
     (λ before. inr (record { router = on.router; port = on.port; slot = on.slot; there = record { copy = on.there.copy; stands = before; is = on.there.is } }))
@@ -70,8 +70,8 @@ before_any_step g vcs router port slot = by (at (no_copies g vcs) router port sl
     by (Some copy) is = absurd (nothing_stands g vcs router port slot copy is)
 
 -- ---- a request enters
-pub enters_alone : (g : Grid) (old new : Network NetCopy) (q : Request) → entered g old q ≡ Some new → ComesAlone q old new
-unfolding entered
+pub enters_alone : (g : Grid) (old new : Network NetCopy) (q : Request) → after_entry g old q ≡ Some new → ComesAlone q old new
+unfolding after_entry
 enters_alone g old new q = by (lowest_free (channels_of old q.source) (port_number L))
   where
     by : (lowest : Option ℕ) → (lowest >>= (λ slot. Some (put old q.source (port_number L) slot (Some (arriving g q.source q))))) ≡ Some new → ComesAlone q old new
@@ -81,7 +81,7 @@ enters_alone g old new q = by (lowest_free (channels_of old q.source) (port_numb
         ⊎_elim
         (λ come. inr (sym come.2 ∙ ap (λ (copy : NetCopy). copy.request) (sym (some_is (arriving g q.source q) come.0 come.1))))
         (λ before. inl before)
-        (way_or_put old q.source (port_number L) slot (Some (arriving g q.source q)) request (subst (λ (net : Network NetCopy). IsOnTheWay net request) (sym made) on))
+        (way_or_put old q.source (port_number L) slot (Some (arriving g q.source q)) request (subst (λ (net : Network NetCopy). HasCopies net request) (sym made) on))
 
 -- ---- a copy leaves, and it or what is left of it stands
 left_stands : (net : Network NetCopy) (r p i : ℕ) (out : Port) (copy : NetCopy) → at net r p i ≡ Some copy → NoneComes net (put net r p i (left_by out copy))
@@ -90,8 +90,8 @@ left_stands net r p i out copy stands q on = ⊎_elim
     (λ before. before)
     (way_or_put net r p i (left_by out copy) q on)
 
-pub hops_with_none : (g : Grid) (old new : Network NetCopy) (r : ℕ) (port : Port) (slot : ℕ) (out : Port) (expected : Option Name) → hopped g old r port slot out expected ≡ Some new → NoneComes old new
-unfolding hopped
+pub hops_with_none : (g : Grid) (old new : Network NetCopy) (r : ℕ) (port : Port) (slot : ℕ) (out : Port) (expected : Option Name) → after_hop g old r port slot out expected ≡ Some new → NoneComes old new
+unfolding after_hop
 hops_with_none g old new r port slot out expected = by (at old r (port_number port) slot) refl
   where
     mid : NetCopy → Network NetCopy
@@ -106,7 +106,7 @@ hops_with_none g old new r port slot out expected = by (at old r (port_number po
           there = record { copy = copy; stands = stands; is = ap (λ (c : NetCopy). c.request) (some_is (arriving g to copy.request) come.0 come.1) ∙ come.2 };
         })
         (λ before. left_stands old r (port_number port) slot out copy stands q before)
-        (way_or_put (mid copy) to (port_number (opposite out)) entry (Some (arriving g to copy.request)) q (subst (λ (net : Network NetCopy). IsOnTheWay net q) (sym made) on))
+        (way_or_put (mid copy) to (port_number (opposite out)) entry (Some (arriving g to copy.request)) q (subst (λ (net : Network NetCopy). HasCopies net q) (sym made) on))
 
     into : (copy : NetCopy) (to : ℕ) → at old r (port_number port) slot ≡ Some copy → (entry : Option ℕ) → (entry >>= (λ entry. Some (put (mid copy) to (port_number (opposite out)) entry (Some (arriving g to copy.request))))) ≡ Some new → NoneComes old new
     into copy to stands None is = cc
@@ -129,19 +129,19 @@ hops_with_none g old new r port slot out expected = by (at old r (port_number po
     by (Some copy) stands is = owing copy stands (owes copy out) is
 
 -- ---- a request is served
-pub serve_found : (net : Network NetCopy) (r : ℕ) (name : Name) → is_some (served net r name) ≡ is_some (local_place net r name)
-unfolding served
+pub serve_found : (net : Network NetCopy) (r : ℕ) (name : Name) → is_some (after_serve net r name) ≡ is_some (local_place net r name)
+unfolding after_serve
 serve_found net r name = by (local_place net r name) refl
   where
-    by : (place : Option (ℕ × ℕ)) → local_place net r name ≡ place → is_some (served net r name) ≡ is_some (local_place net r name)
+    by : (place : Option (ℕ × ℕ)) → local_place net r name ≡ place → is_some (after_serve net r name) ≡ is_some (local_place net r name)
     by None is = rw is refl
     by (Some place) is = let there = local_stands net r name place.0 place.1 is in rw (is, there.1) refl
 
-pub serves_named : (old new : Network NetCopy) (r : ℕ) (name : Name) (q : Request) → served old r name ≡ Some (q, new) → Serves old new name q
+pub serves_named : (old new : Network NetCopy) (r : ℕ) (name : Name) (q : Request) → after_serve old r name ≡ Some (q, new) → Serves old new name q
 serves_named old new r name q = by (local_place old r name) refl
   where
-    by : (place : Option (ℕ × ℕ)) → local_place old r name ≡ place → served old r name ≡ Some (q, new) → Serves old new name q
-    by None none is = let fails : is_some (served old r name) ≡ false = serve_found old r name ∙ ap is_some none in let holds = ap is_some is in cc
+    by : (place : Option (ℕ × ℕ)) → local_place old r name ≡ place → after_serve old r name ≡ Some (q, new) → Serves old new name q
+    by None none is = let fails : is_some (after_serve old r name) ≡ false = serve_found old r name ∙ ap is_some none in let holds = ap is_some is in cc
     by (Some place) found is =
         let there = local_stands old r name place.0 place.1 found in
         let copy = there.0 in

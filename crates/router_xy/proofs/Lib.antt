@@ -1,10 +1,10 @@
 pub mod LocalPlaces
 pub mod Steps
-pub mod CopyWays
+pub mod CopyOutputs
 pub mod OwedCounts
 pub mod Sound
 pub mod WhereCopies
-pub mod OwedWays
+pub mod OwedOutputs
 pub mod RoomForNames
 pub mod Arrived
 pub mod CopySteps

@@ -10,17 +10,17 @@ use Rattle.mesh_gen.specs.declared.port.Port.TheVariants.{L}
 use Rattle.mesh_gen.specs.Grid.{Grid, tiles, neighbour}
 use Rattle.mesh_gen.specs.Ports.{count_if}
 use Rattle.mesh_gen.specs.Routes.{HasTiles}
-use Rattle.mesh_gen.specs.Tree.{tree_outs, covers, ways_to}
-use Rattle.mesh_gen.proofs.Serves.{ways_to-source, ways_to-edge}
+use Rattle.mesh_gen.specs.Tree.{tree_outs, covers, outputs_to}
+use Rattle.mesh_gen.proofs.Serves.{outputs_to-source, outputs_to-edge}
 use Rattle.vc_bank.specs.Channels.{slots_at, IsFree}
 use Rattle.vc_bank.specs.Places.{Network, slots, at, put, HasPlace, weight, weigh}
 use Rattle.vc_bank.proofs.PlaceLaws.{weigh-put, weigh_none, place_of}
 use Rattle.vc_bank.proofs.SlotWrites.{free_within}
 use Rattle.chip_model.specs.declared.net_copy.NetCopy.{NetCopy}
 use Rattle.chip_model.specs.Copies.{Name, is_named, name_of, channels_of, arriving, left_by, owes}
-use Rattle.chip_model.specs.CopiesOwed.{owing, StandsOnTree, OwesMore, OwesSame, OwesLess}
+use Rattle.chip_model.specs.CopiesOwed.{owing, IsOnTree, OwesMore, OwesSame, OwesLess}
 use Rattle.router_xy.specs.RequestNetwork.{IsAbsent}
-use Rattle.router_xy.proofs.CopyWays.{ways_by, ways-tree, ways-le, for_name, for_name-le, for_name-yes, for_name-no, name_is, owed_by, owed_by-left}
+use Rattle.router_xy.proofs.CopyOutputs.{outputs_by, ways-tree, ways-le, for_name, for_name-le, for_name-yes, for_name-no, name_is, owed_by, owed_by-left}
 
 -- ---- the two writes of which the steps are made
 
@@ -59,8 +59,8 @@ weigh-arrive f net r p slot copy free =
     subst (λ (was : Option NetCopy). weigh f (put net r p slot (Some copy)) + weight (f r p slot) was ≡ weigh f net + f r p slot copy) (nothing_at net r p slot free) (weigh-put f net r p slot (Some copy) (free_place net r p slot free)) in
     omega arith
 
--- a copy that leaves by a port takes with it what the tiles behind that port are owed
-owing-leave : {g : Grid} {net new : Network NetCopy} {r p slot : ℕ} {out : Port} {copy : NetCopy} {left : Option NetCopy} → StandsOnTree g r copy → Leaves net new r p slot out copy left
+-- a copy that leaves by a port takes with it what the tiles beyond that port are owed
+owing-leave : {g : Grid} {net new : Network NetCopy} {r p slot : ℕ} {out : Port} {copy : NetCopy} {left : Option NetCopy} → IsOnTree g r copy → Leaves net new r p slot out copy left
     → (name : Name) (tile : ℕ) → owing g new name tile + for_name name copy.request (count_if (covers g copy.request.source r tile out)) ≡ owing g net name tile
 unfolding owing
 owing-leave {g} {net} {new} {r} {p} {slot} {out} {copy} {left} on leaves name tile =
@@ -71,10 +71,10 @@ owing-leave {g} {net} {new} {r} {p} {slot} {out} {copy} {left} on leaves name ti
 
 -- a copy that comes to a router brings what the ports of its tree there lead to
 owing-arrive : {g : Grid} {net new : Network NetCopy} {r p slot : ℕ} {q : Request} {copy : NetCopy} → Arrives g net new r p slot q copy
-    → (name : Name) (tile : ℕ) → owing g new name tile ≡ owing g net name tile + for_name name q (ways_by g q.source r tile (tree_outs g q.source r))
+    → (name : Name) (tile : ℕ) → owing g new name tile ≡ owing g net name tile + for_name name q (outputs_by g q.source r tile (tree_outs g q.source r))
 unfolding owing
 owing-arrive {g} {net} {new} {r} {p} {slot} {q} {copy} arrives name tile =
-    let come = for_name name q (ways_by g q.source r tile (tree_outs g q.source r)) in
+    let come = for_name name q (outputs_by g q.source r tile (tree_outs g q.source r)) in
     subst (λ (after : Network NetCopy). weigh (owed_by g name tile) after ≡ weigh (owed_by g name tile) net + come) (sym arrives.made)
     (subst (λ (one : NetCopy). weigh (owed_by g name tile) (put net r p slot (Some one)) ≡ weigh (owed_by g name tile) net + come) (sym arrives.copy_is) (weigh-arrive (owed_by g name tile) net r p slot (arriving g r q) arrives.free))
 
@@ -84,9 +84,9 @@ OwesOnce g net = (name : Name) (tile : ℕ) → owing g net name tile ≤ 1
 
 -- a copy of the request may come to the router: no tile to which the tree leads from there is owed the request
 abbrev pub MayCome : Grid → Network NetCopy → ℕ → Request → Type 0
-MayCome g net r q = (name : Name) (tile : ℕ) → owing g net name tile + for_name name q (ways_to g q.source r tile) ≤ 1
+MayCome g net r q = (name : Name) (tile : ℕ) → owing g net name tile + for_name name q (outputs_to g q.source r tile) ≤ 1
 
-pub once-leave : {g : Grid} {net new : Network NetCopy} {r p slot : ℕ} {out : Port} {copy : NetCopy} {left : Option NetCopy} → OwesOnce g net → StandsOnTree g r copy → Leaves net new r p slot out copy left → OwesOnce g new
+pub once-leave : {g : Grid} {net new : Network NetCopy} {r p slot : ℕ} {out : Port} {copy : NetCopy} {left : Option NetCopy} → OwesOnce g net → IsOnTree g r copy → Leaves net new r p slot out copy left → OwesOnce g new
 once-leave once on leaves name tile =
     let less = owing-leave on leaves name tile in
     let few = once name tile in
@@ -108,20 +108,20 @@ owing-absent g net name tile absent = weigh_none (owed_by g name tile) net (λ r
 pub may_enter : (g : Grid) (net : Network NetCopy) (q : Request) → OwesOnce g net → IsAbsent net (name_of q) → MayCome g net q.source q
 may_enter g net q once absent name tile = ⊎_elim
     (λ named. let none = owing-absent g net name tile (subst (λ (n : Name). IsAbsent net n) (name_is name q named) absent) in
-    let whole = for_name-yes name q (ways_to g q.source q.source tile) named in
-    let one = ways_to-source g q.source tile in
+    let whole = for_name-yes name q (outputs_to g q.source q.source tile) named in
+    let one = outputs_to-source g q.source tile in
     omega arith)
-    (λ other. let none = for_name-no name q (ways_to g q.source q.source tile) other in
+    (λ other. let none = for_name-no name q (outputs_to g q.source q.source tile) other in
     let few = once name tile in
     omega arith)
     (cases_Bool (is_named name q))
 
--- what a copy owes behind a side is what the ways from the router there lead to
-behind_side : (g : Grid) (r : ℕ) (out : Port) (copy : NetCopy) (to tile : ℕ) → HasTiles g → StandsOnTree g r copy → owes copy out ≡ true → neighbour g r out ≡ Some to → ways_to g copy.request.source to tile ≡ count_if (covers g copy.request.source r tile out)
-behind_side g r out copy to tile some on owed next = ways_to-edge g copy.request.source r to tile out some (record { leaves = on.outs out owed; next = next })
+-- what a copy owes after a side is what the ways from the router there lead to
+behind_side : (g : Grid) (r : ℕ) (out : Port) (copy : NetCopy) (to tile : ℕ) → HasTiles g → IsOnTree g r copy → owes copy out ≡ true → neighbour g r out ≡ Some to → outputs_to g copy.request.source to tile ≡ count_if (covers g copy.request.source r tile out)
+behind_side g r out copy to tile some on owed next = outputs_to-edge g copy.request.source r to tile out some (record { leaves = on.outs out owed; next = next })
 
 -- a copy that has left by a side may come to the router there
-pub may_go_on : {g : Grid} {net mid : Network NetCopy} {r p slot : ℕ} {out : Port} {copy : NetCopy} {left : Option NetCopy} {to : ℕ} → HasTiles g → OwesOnce g net → StandsOnTree g r copy → Leaves net mid r p slot out copy left → neighbour g r out ≡ Some to
+pub may_go_on : {g : Grid} {net mid : Network NetCopy} {r p slot : ℕ} {out : Port} {copy : NetCopy} {left : Option NetCopy} {to : ℕ} → HasTiles g → OwesOnce g net → IsOnTree g r copy → Leaves net mid r p slot out copy left → neighbour g r out ≡ Some to
     → MayCome g mid to copy.request
 may_go_on {g} {r = r} {out = out} {copy = copy} {to = to} some once on leaves next name tile =
     let less = owing-leave on leaves name tile in
@@ -134,10 +134,10 @@ may_go_on {g} {r = r} {out = out} {copy = copy} {to = to} some once on leaves ne
 -- a request that enters is owed to every tile once more
 pub owes_more : {g : Grid} {net new : Network NetCopy} {p slot : ℕ} {q : Request} {copy : NetCopy} → HasTiles g → q.source < tiles g → Arrives g net new q.source p slot q copy → OwesMore g q net new
 owes_more {g} {net} {q = q} some source arrives name tile reached =
-    owing-arrive arrives name tile ∙ ap (λ (count : ℕ). owing g net name tile + for_name name q count) (ways-tree g q.source q.source tile some source reached ∙ ways_to-source g q.source tile)
+    owing-arrive arrives name tile ∙ ap (λ (count : ℕ). owing g net name tile + for_name name q count) (ways-tree g q.source q.source tile some source reached ∙ outputs_to-source g q.source tile)
 
 -- a hop changes nothing
-pub owes_same : {g : Grid} {net mid new : Network NetCopy} {r p slot : ℕ} {out : Port} {copy : NetCopy} {left : Option NetCopy} {to side entry : ℕ} {come : NetCopy} → HasTiles g → to < tiles g → StandsOnTree g r copy → Leaves net mid r p slot out copy left
+pub owes_same : {g : Grid} {net mid new : Network NetCopy} {r p slot : ℕ} {out : Port} {copy : NetCopy} {left : Option NetCopy} {to side entry : ℕ} {come : NetCopy} → HasTiles g → to < tiles g → IsOnTree g r copy → Leaves net mid r p slot out copy left
     → neighbour g r out ≡ Some to → Arrives g mid new to side entry copy.request come → OwesSame g net new
 owes_same {g} {r = r} {out = out} {copy = copy} {to = to} some inside on leaves next arrives name tile reached =
     let less = owing-leave on leaves name tile in
@@ -153,6 +153,6 @@ own_tile name q r tile = by (is_named name q) (r == tile) (tile == r) (grind (ar
     by true one other same = ap count_if same
     by false one other same = refl
 
-pub owes_less : {g : Grid} {net new : Network NetCopy} {r p slot : ℕ} {copy : NetCopy} {left : Option NetCopy} → StandsOnTree g r copy → Leaves net new r p slot L copy left → OwesLess g r copy.request net new
+pub owes_less : {g : Grid} {net new : Network NetCopy} {r p slot : ℕ} {copy : NetCopy} {left : Option NetCopy} → IsOnTree g r copy → Leaves net new r p slot L copy left → OwesLess g r copy.request net new
 owes_less {g} {new = new} {r} {copy = copy} on leaves name tile reached =
     ap (λ (count : ℕ). owing g new name tile + count) (sym (own_tile name copy.request r tile)) ∙ owing-leave on leaves name tile

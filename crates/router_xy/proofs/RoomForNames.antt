@@ -13,9 +13,9 @@ use Rattle.vc_bank.specs.Places.{Network, sum_from, slot_count, weigh}
 use Rattle.vc_bank.proofs.PlaceLaws.{weigh-sum_by, weigh-slot_count}
 use Rattle.chip_model.specs.declared.net_copy.NetCopy.{NetCopy}
 use Rattle.chip_model.specs.Copies.{Name, is_named}
-use Rattle.chip_model.specs.CopiesOwed.{owing, ways_owed}
+use Rattle.chip_model.specs.CopiesOwed.{owing, outputs_owed}
 use Rattle.chip_model.specs.NetworkShape.{HasChannels}
-use Rattle.router_xy.proofs.CopyWays.{ways-le, ways_to-le, for_name, for_name-no, name_is, owed_by}
+use Rattle.router_xy.proofs.CopyOutputs.{ways-le, outputs_to-le, for_name, for_name-no, name_is, owed_by}
 
 -- ---- how many channels the routers have
 bank_size : (vcs : ℕ) (bank : Channels NetCopy) → length bank ≡ 5 → ((port : ℕ) → length (slots_at bank port) ≡ length (slots_at (empty_channels {P = NetCopy} vcs true) port)) → sum_from (λ port slots. length slots) 0 bank ≡ 5 * vcs + 4
@@ -86,9 +86,9 @@ names_fit g vcs net tile names have differ owed =
     let some = sum_of_some (λ name. weigh (owed_by g name tile) net) names owed in
     let whole = weigh-sum_by (λ name. owed_by g name tile) net names in
     let few = weigh-slot_count (λ r p slot copy. sum_by (λ name. owed_by g name tile r p slot copy) names)
-    (λ r p slot copy. sum_for_names copy.request (ways_owed g copy r tile) names (one copy r) differ) net in
+    (λ r p slot copy. sum_for_names copy.request (outputs_owed g copy r tile) names (one copy r) differ) net in
     let size = network_size g vcs net have in
     omega arith
   where
-    one : (copy : NetCopy) (r : ℕ) → ways_owed g copy r tile ≤ 1
-    one copy r = let few = ways-le g copy.request.source r tile (bits_of copy.owed) in let least = ways_to-le g copy.request.source r tile in omega arith
+    one : (copy : NetCopy) (r : ℕ) → outputs_owed g copy r tile ≤ 1
+    one copy r = let few = ways-le g copy.request.source r tile (bits_of copy.owed) in let least = outputs_to-le g copy.request.source r tile in omega arith

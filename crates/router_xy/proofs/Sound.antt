@@ -16,16 +16,16 @@ use Rattle.vc_bank.specs.Places.{Network, slots, at, put, HasPlace}
 use Rattle.vc_bank.proofs.PlaceLaws.{bank-put_same, bank-put_other, at-put, place_of, at-empty, length-slots-put}
 use Rattle.chip_model.specs.declared.net_copy.NetCopy.{NetCopy}
 use Rattle.chip_model.specs.Copies.{Name, channels_of, no_copies}
-use Rattle.chip_model.specs.CopiesOwed.{StandsOnTree}
+use Rattle.chip_model.specs.CopiesOwed.{IsOnTree}
 use Rattle.chip_model.specs.NetworkShape.{HasChannels}
 use Rattle.router_xy.specs.declared.way.Way.{Way}
-use Rattle.router_xy.specs.RequestNetwork.{IsWay, IsSound}
+use Rattle.router_xy.specs.RequestNetwork.{IsOpenHop, RoutersFit}
 use Rattle.router_xy.proofs.Steps.{entry_is_free, hops_away}
-use Rattle.router_xy.proofs.CopyWays.{some_is, stands_left, stands_arriving}
+use Rattle.router_xy.proofs.CopyOutputs.{some_is, stands_left, stands_arriving}
 use Rattle.router_xy.proofs.OwedCounts.{Leaves, Arrives, free_place, OwesOnce, MayCome, owing-absent, once-leave, once-arrive}
 
 abbrev pub sound : Grid → ℕ → Network NetCopy → Type 0
-sound g vcs net = IsSound (record { grid = g; vcs = vcs; copies = net })
+sound g vcs net = RoutersFit (record { grid = g; vcs = vcs; copies = net })
 
 -- ---- the channels of a router
 bank_there : (g : Grid) (vcs : ℕ) (net : Network NetCopy) (r : ℕ) → sound g vcs net → r < tiles g → slice_get net r ≡ Some (channels_of net r)
@@ -76,14 +76,14 @@ every-put holds net r p slot packet all place own n q i copy stands = ⊎_elim
     (at-put net r p slot packet n q i copy place stands)
 
 -- ---- the routers stay sound
-sound-put : (g : Grid) (vcs : ℕ) (net new : Network NetCopy) (r p slot : ℕ) (packet : Option NetCopy) → sound g vcs net → HasPlace net r p slot → ((copy : NetCopy) → packet ≡ Some copy → StandsOnTree g r copy) → OwesOnce g new → new ≡ put net r p slot packet
+sound-put : (g : Grid) (vcs : ℕ) (net new : Network NetCopy) (r p slot : ℕ) (packet : Option NetCopy) → sound g vcs net → HasPlace net r p slot → ((copy : NetCopy) → packet ≡ Some copy → IsOnTree g r copy) → OwesOnce g new → new ≡ put net r p slot packet
     → sound g vcs new
 sound-put g vcs net new r p slot packet is place own once made = record {
   some = is.some;
   vcs_limit = is.vcs_limit;
   channels = subst (λ (net : Network NetCopy). HasChannels g vcs true net) (sym made) (channels-put g vcs net r p slot packet is.channels place);
   fit = record {
-    stand = subst (λ (net : Network NetCopy). Every (StandsOnTree g) net) (sym made) (every-put (StandsOnTree g) net r p slot packet is.fit.stand place own);
+    stand = subst (λ (net : Network NetCopy). Every (IsOnTree g) net) (sym made) (every-put (IsOnTree g) net r p slot packet is.fit.stand place own);
     once = once;
   };
 }
@@ -96,15 +96,15 @@ sound-leave {g} {vcs} {net} {new} {r} {p} {slot} {out} {copy} {left} is leaves =
 pub sound-arrive : {g : Grid} {vcs : ℕ} {net new : Network NetCopy} {r p slot : ℕ} {q : Request} {copy : NetCopy} → sound g vcs net → q.source < tiles g → r < tiles g → MayCome g net r q → Arrives g net new r p slot q copy → sound g vcs new
 sound-arrive {g} {vcs} {net} {new} {r} {p} {slot} {q} {copy} is source inside may arrives =
     sound-put g vcs net new r p slot (Some copy) is (free_place net r p slot arrives.free)
-    (λ other same. subst (λ (c : NetCopy). StandsOnTree g r c) (sym arrives.copy_is ∙ some_is copy other same) (stands_arriving g r q source inside))
+    (λ other same. subst (λ (c : NetCopy). IsOnTree g r c) (sym arrives.copy_is ∙ some_is copy other same) (stands_arriving g r q source inside))
     (once-arrive may arrives)
     arrives.made
 
 -- ---- a hop
-pub way_inside : (g : Grid) (vcs : ℕ) (net : Network NetCopy) (r : ℕ) (port : Port) (slot : ℕ) (out : Port) (expected : Option Name) (way : Way) → sound g vcs net → IsWay g net r port slot out expected way → way.to < tiles g
+pub way_inside : (g : Grid) (vcs : ℕ) (net : Network NetCopy) (r : ℕ) (port : Port) (slot : ℕ) (out : Port) (expected : Option Name) (way : Way) → sound g vcs net → IsOpenHop g net r port slot out expected way → way.to < tiles g
 way_inside g vcs net r port slot out expected way is go = neighbour_inside g r out way.to is.some go.next
 
-pub entry_beside : (g : Grid) (vcs : ℕ) (net mid : Network NetCopy) (r : ℕ) (port : Port) (slot : ℕ) (out side : Port) (expected : Option Name) (way : Way) (left : Option NetCopy) → sound g vcs net → IsWay g net r port slot out expected way
+pub entry_beside : (g : Grid) (vcs : ℕ) (net mid : Network NetCopy) (r : ℕ) (port : Port) (slot : ℕ) (out side : Port) (expected : Option Name) (way : Way) (left : Option NetCopy) → sound g vcs net → IsOpenHop g net r port slot out expected way
     → mid ≡ put net r (port_number port) slot left → side ≡ opposite out → IsFree (channels_of mid way.to) (port_number side) way.entry
 entry_beside g vcs net mid r port slot out side expected way left is go mid_is side_is =
     let free = entry_is_free (channels_of net way.to) (opposite out) _ way.entry go.entry in

@@ -14,9 +14,9 @@ use Rattle.vc_bank.specs.Places.{Network, at, put}
 use Rattle.vc_bank.proofs.FreeSlots.{IsLowestFree-lowest_free}
 use Rattle.chip_model.specs.declared.net_copy.NetCopy.{NetCopy}
 use Rattle.chip_model.specs.Partial.{◌>>=◌, when}
-use Rattle.chip_model.specs.Copies.{Name, channels_of, arriving, left_by, owes, entered, entry_slot, expects, hopped, local_place, served}
+use Rattle.chip_model.specs.Copies.{Name, channels_of, arriving, left_by, owes, after_entry, entry_slot, expects, after_hop, local_place, after_serve}
 use Rattle.router_xy.specs.declared.way.Way.{Way}
-use Rattle.router_xy.specs.RequestNetwork.{IsWay}
+use Rattle.router_xy.specs.RequestNetwork.{IsOpenHop}
 
 -- ---- a channel that takes a copy in is free
 pub lowest_is_free : (channels : Channels NetCopy) (p slot : ℕ) → lowest_free channels p ≡ Some slot → IsFree channels p slot
@@ -65,48 +65,48 @@ pub seen_entry : (read net : Network NetCopy) (to : ℕ) (out port : Port) (expe
 seen_entry read net to out port expected q is_expected answer value same port_is expects_is is found = rw (← same, ← port_is, ← expects_is, ← is) found
 
 -- ---- a request enters, or is refused
-pub entered_into : (g : Grid) (net : Network NetCopy) (q : Request) (slot : ℕ) → lowest_free (channels_of net q.source) (port_number L) ≡ Some slot → entered g net q ≡ Some (put net q.source (port_number L) slot (Some (arriving g q.source q)))
-unfolding entered
+pub entered_into : (g : Grid) (net : Network NetCopy) (q : Request) (slot : ℕ) → lowest_free (channels_of net q.source) (port_number L) ≡ Some slot → after_entry g net q ≡ Some (put net q.source (port_number L) slot (Some (arriving g q.source q)))
+unfolding after_entry
 entered_into g net q slot lowest = rw lowest
 
-pub not_entered : (g : Grid) (net : Network NetCopy) (q : Request) → lowest_free (channels_of net q.source) (port_number L) ≡ None → entered g net q ≡ None
-unfolding entered
+pub not_entered : (g : Grid) (net : Network NetCopy) (q : Request) → lowest_free (channels_of net q.source) (port_number L) ≡ None → after_entry g net q ≡ None
+unfolding after_entry
 not_entered g net q lowest = rw lowest
 
 some_bind : {X Y : Type 0} (o : Option X) (f : X → Y) → is_some o ≡ is_some (o >>= (λ x. Some (f x)))
 some_bind None f = refl
 some_bind (Some x) f = refl
 
-pub can_enter : (g : Grid) (net : Network NetCopy) (q : Request) → is_some (lowest_free (channels_of net q.source) (port_number L)) ≡ is_some (entered g net q)
-unfolding entered
+pub can_enter : (g : Grid) (net : Network NetCopy) (q : Request) → is_some (lowest_free (channels_of net q.source) (port_number L)) ≡ is_some (after_entry g net q)
+unfolding after_entry
 can_enter g net q = some_bind (lowest_free (channels_of net q.source) (port_number L)) (λ slot. put net q.source (port_number L) slot (Some (arriving g q.source q)))
 
 -- ---- a copy hops, or is refused
-pub no_copy : (g : Grid) (net : Network NetCopy) (r : ℕ) (port : Port) (slot : ℕ) (out : Port) (expected : Option Name) → at net r (port_number port) slot ≡ None → hopped g net r port slot out expected ≡ None
-unfolding hopped
+pub no_copy : (g : Grid) (net : Network NetCopy) (r : ℕ) (port : Port) (slot : ℕ) (out : Port) (expected : Option Name) → at net r (port_number port) slot ≡ None → after_hop g net r port slot out expected ≡ None
+unfolding after_hop
 no_copy g net r port slot out expected stands = rw stands
 
-pub not_owed : (g : Grid) (net : Network NetCopy) (r : ℕ) (port : Port) (slot : ℕ) (out : Port) (expected : Option Name) (copy : NetCopy) → at net r (port_number port) slot ≡ Some copy → owes copy out ≡ false → hopped g net r port slot out expected ≡ None
-unfolding hopped
+pub not_owed : (g : Grid) (net : Network NetCopy) (r : ℕ) (port : Port) (slot : ℕ) (out : Port) (expected : Option Name) (copy : NetCopy) → at net r (port_number port) slot ≡ Some copy → owes copy out ≡ false → after_hop g net r port slot out expected ≡ None
+unfolding after_hop
 not_owed g net r port slot out expected copy stands owed = rw (stands, owed)
 
 pub no_router : (g : Grid) (net : Network NetCopy) (r : ℕ) (port : Port) (slot : ℕ) (out : Port) (expected : Option Name) (copy : NetCopy) → at net r (port_number port) slot ≡ Some copy → owes copy out ≡ true → neighbour g r out ≡ None
-    → hopped g net r port slot out expected ≡ None
-unfolding hopped
+    → after_hop g net r port slot out expected ≡ None
+unfolding after_hop
 no_router g net r port slot out expected copy stands owed next = rw (stands, owed, next)
 
 pub no_entry : (g : Grid) (net : Network NetCopy) (r : ℕ) (port : Port) (slot : ℕ) (out : Port) (expected : Option Name) (copy : NetCopy) (to : ℕ) → at net r (port_number port) slot ≡ Some copy → owes copy out ≡ true → neighbour g r out ≡ Some to
-    → entry_slot (channels_of net to) (opposite out) (expects expected copy.request) ≡ None → hopped g net r port slot out expected ≡ None
-unfolding hopped
+    → entry_slot (channels_of net to) (opposite out) (expects expected copy.request) ≡ None → after_hop g net r port slot out expected ≡ None
+unfolding after_hop
 no_entry g net r port slot out expected copy to stands owed next entry = rw (stands, owed, next, entry)
 
-pub hopped_by : (g : Grid) (net : Network NetCopy) (r : ℕ) (port : Port) (slot : ℕ) (out : Port) (expected : Option Name) (way : Way) → IsWay g net r port slot out expected way
-    → hopped g net r port slot out expected ≡ Some (put (put net r (port_number port) slot (left_by out way.copy)) way.to (port_number (opposite out)) way.entry (Some (arriving g way.to way.copy.request)))
-unfolding hopped
+pub hopped_by : (g : Grid) (net : Network NetCopy) (r : ℕ) (port : Port) (slot : ℕ) (out : Port) (expected : Option Name) (way : Way) → IsOpenHop g net r port slot out expected way
+    → after_hop g net r port slot out expected ≡ Some (put (put net r (port_number port) slot (left_by out way.copy)) way.to (port_number (opposite out)) way.entry (Some (arriving g way.to way.copy.request)))
+unfolding after_hop
 hopped_by g net r port slot out expected way is = rw (is.stands, is.owed, is.next, is.entry)
 
-pub can_go : (g : Grid) (net : Network NetCopy) (r : ℕ) (port : Port) (slot : ℕ) (out : Port) (expected : Option Name) (found : Option Way) → IfSome found (λ way. IsWay g net r port slot out expected way) → IfNone found (hopped g net r port slot out expected ≡ None)
-    → is_some found ≡ is_some (hopped g net r port slot out expected)
+pub can_go : (g : Grid) (net : Network NetCopy) (r : ℕ) (port : Port) (slot : ℕ) (out : Port) (expected : Option Name) (found : Option Way) → IfSome found (λ way. IsOpenHop g net r port slot out expected way) → IfNone found (after_hop g net r port slot out expected ≡ None)
+    → is_some found ≡ is_some (after_hop g net r port slot out expected)
 can_go g net r port slot out expected (Some way) some none = sym (ap is_some (hopped_by g net r port slot out expected way some))
 can_go g net r port slot out expected None some none = sym (ap is_some none)
 
@@ -117,6 +117,6 @@ pub landed : (g : Grid) (net mid new : Network NetCopy) (r : ℕ) (port : Port) 
 landed g net mid new r port slot out side way left copy mid_is left_is side_is copy_is made = cc
 
 -- ---- a request is served
-pub served_at : (net : Network NetCopy) (r : ℕ) (name : Name) (p slot : ℕ) (copy : NetCopy) → local_place net r name ≡ Some (p, slot) → at net r p slot ≡ Some copy → served net r name ≡ Some (copy.request, put net r p slot (left_by L copy))
-unfolding served
+pub served_at : (net : Network NetCopy) (r : ℕ) (name : Name) (p slot : ℕ) (copy : NetCopy) → local_place net r name ≡ Some (p, slot) → at net r p slot ≡ Some copy → after_serve net r name ≡ Some (copy.request, put net r p slot (left_by L copy))
+unfolding after_serve
 served_at net r name p slot copy place stands = rw (place, stands)

@@ -24,7 +24,7 @@ abbrev pub IsAbsent : Network NetCopy → Name → Type 0
 IsAbsent net name = (router port slot : ℕ) (copy : NetCopy) → at net router port slot ≡ Some copy → is_named name copy.request ≡ false
 
 -- a copy owes a side, a router stands there, and a channel of it takes the copy in
-pub record IsWay (g : Grid) (net : Network NetCopy) (r : ℕ) (port : Port) (slot : ℕ) (out : Port) (expected : Option Name) (way : Way) : Type 0 where
+pub record IsOpenHop (g : Grid) (net : Network NetCopy) (r : ℕ) (port : Port) (slot : ℕ) (out : Port) (expected : Option Name) (way : Way) : Type 0 where
   pub stands : at net r (port_number port) slot ≡ Some way.copy
   pub owed : owes way.copy out ≡ true
   pub next : neighbour g r out ≡ Some way.to
@@ -39,12 +39,12 @@ abbrev pub numbered : Option (Port × ℕ) → Option (ℕ × ℕ)
 numbered place = option_map (λ place. (port_number place.0, place.1)) place
 
 -- two ways in which a tile is owed a request are one: they leave the same channel by the same port
-abbrev pub IsOneWay : (g : Grid) (net : Network NetCopy) (name : Name) (tile : ℕ) → Owes g net name tile → Owes g net name tile → Type 0
-IsOneWay g net name tile a b = (a.router ≡ b.router) × (a.port ≡ b.port) × (a.slot ≡ b.slot) × (a.out ≡ b.out)
+abbrev pub IsOneOutput : (g : Grid) (net : Network NetCopy) (name : Name) (tile : ℕ) → Owes g net name tile → Owes g net name tile → Type 0
+IsOneOutput g net name tile a b = (a.router ≡ b.router) × (a.port ≡ b.port) × (a.slot ≡ b.slot) × (a.out ≡ b.out)
 
 -- there are routers, one for each tile, with their channels, and the copies in them stand on their trees and owe each
 -- tile at most once
-pub record IsSound (net : RequestNetwork) : Type 0 where
+pub record RoutersFit (net : RequestNetwork) : Type 0 where
   pub some : HasTiles net.grid
   pub vcs_limit : IsFrom 1 8 net.vcs
   pub channels : HasChannels net.grid net.vcs true net.copies

@@ -4,11 +4,11 @@ ghost use Rattle.mesh_gen.specs.declared.port.Port.{Port};
 ghost use Rattle.mesh_gen.specs.declared.request.Request.{Request};
 ghost use Rattle.mesh_gen.specs.Grid.{Grid, tiles};
 ghost use Rattle.vc_bank.specs.Places.{Network, at};
-ghost use Rattle.chip_model.specs.Copies.{Name, no_copies, entered, hopped, local_place, served};
+ghost use Rattle.chip_model.specs.Copies.{Name, no_copies, after_entry, after_hop, local_place, after_serve};
 ghost use Rattle.chip_model.specs.CopiesOwed.{CopiesFit, Owes, owing, NoneAhead, NoneComes, ComesAlone};
 ghost use Rattle.chip_model.specs.NetworkShape.{HasChannels};
 ghost use Rattle.router_xy.specs.LocalCopies.{HasLocalCopy};
-ghost use Rattle.router_xy.specs.RequestNetwork.{IsAbsent, IsOneWay};
+ghost use Rattle.router_xy.specs.RequestNetwork.{IsAbsent, IsOneOutput};
 ghost use Rattle.router_xy.specs.CopySteps.{Serves};
 
 use chip_model::NetCopy;
@@ -19,8 +19,8 @@ pub fn owed_laws()
     // A tile is owed a request exactly where the count says so, and then by one port of one copy.
     ensures owed { (g : Grid) (net : Network NetCopy) (name : Name) (tile : ℕ) → CopiesFit g net → tile < tiles g
         → Owes g net name tile ↔ (owing g net name tile ≡ 1) }
-    ensures one_way { (g : Grid) (net : Network NetCopy) (name : Name) (tile : ℕ) → CopiesFit g net
-        → (a b : Owes g net name tile) → IsOneWay g net name tile a b }
+    ensures one_output { (g : Grid) (net : Network NetCopy) (name : Name) (tile : ℕ) → CopiesFit g net
+        → (a b : Owes g net name tile) → IsOneOutput g net name tile a b }
 
     // No copy stands where another of its request still owes the way.
     ensures ahead { (g : Grid) (net : Network NetCopy) → CopiesFit g net → NoneAhead g net }
@@ -46,12 +46,12 @@ pub fn step_laws()
     ensures opened { (g : Grid) (vcs router port slot : ℕ) → at (no_copies g vcs) router port slot ≡ None }
 
     // The request that enters is the only one of which copies come, and a hop brings none.
-    ensures enters { (g : Grid) (old new : Network NetCopy) (q : Request) → entered g old q ≡ Some new → ComesAlone q old new }
+    ensures enters { (g : Grid) (old new : Network NetCopy) (q : Request) → after_entry g old q ≡ Some new → ComesAlone q old new }
     ensures hops { (g : Grid) (old new : Network NetCopy) (r : ℕ) (port : Port) (slot : ℕ) (out : Port) (expected : Option Name)
-        → hopped g old r port slot out expected ≡ Some new → NoneComes old new }
+        → after_hop g old r port slot out expected ≡ Some new → NoneComes old new }
 
     // A request is served exactly where a copy of it is found, and what is served is the request that has the name.
-    ensures found { (net : Network NetCopy) (r : ℕ) (name : Name) → is_some (served net r name) ≡ is_some (local_place net r name) }
-    ensures serves { (old new : Network NetCopy) (r : ℕ) (name : Name) (q : Request) → served old r name ≡ Some (q, new)
+    ensures found { (net : Network NetCopy) (r : ℕ) (name : Name) → is_some (after_serve net r name) ≡ is_some (local_place net r name) }
+    ensures serves { (old new : Network NetCopy) (r : ℕ) (name : Name) (q : Request) → after_serve old r name ≡ Some (q, new)
         → Serves old new name q }
 {}

@@ -1,10 +1,10 @@
 ghost use Rattle.std.specs.Prelude.{◌≡◌, ◌<◌, ◌≤◌, ◌+◌, ◌*◌, Some, None, true, IsSome, IfOk, IfSome, IfNone, OnOk, OnErr, is_some};
 ghost use Rattle.mesh_gen.specs.Grid.{tiles};
 ghost use Rattle.mesh_gen.specs.Mesh.{grid};
-ghost use Rattle.chip_model.specs.Copies.{no_copies, name_of, entered, hopped, local_place, served};
+ghost use Rattle.chip_model.specs.Copies.{no_copies, name_of, after_entry, after_hop, local_place, after_serve};
 ghost use Rattle.chip_model.specs.CopiesOwed.{CopiesFit, OwesMore, OwesSame, OwesLess, NoneComes, ComesAlone, ReservesExpected, ReservesNothing};
 ghost use Rattle.chip_model.specs.NetworkShape.{HasChannels};
-ghost use Rattle.router_xy.specs.RequestNetwork.{IsAbsent, IsWay, numbered, arrived};
+ghost use Rattle.router_xy.specs.RequestNetwork.{IsAbsent, IsOpenHop, numbered, arrived};
 
 use crate::banks::entry_slot;
 use crate::copies::{expects, left_by};
@@ -28,13 +28,13 @@ pub struct Routers {
 
 impl Model for Routers {
     ghost use Rattle.mesh_gen.specs.Mesh.{grid};
-    ghost use Rattle.router_xy.specs.RequestNetwork.{RequestNetwork, IsSound};
+    ghost use Rattle.router_xy.specs.RequestNetwork.{RequestNetwork, RoutersFit};
 
     ghost Value = { RequestNetwork };
 
     ghost view = { λ routers. record { grid = grid routers.mesh; vcs = routers.vcs; copies = routers.banks.items } };
 
-    ghost invariant = { λ routers. IsSound (record { grid = grid routers.mesh; vcs = routers.vcs; copies = routers.banks.items }) };
+    ghost invariant = { λ routers. RoutersFit (record { grid = grid routers.mesh; vcs = routers.vcs; copies = routers.banks.items }) };
 }
 
 impl Routers {
@@ -66,8 +66,8 @@ impl Routers {
     pub fn inject(&mut self, q: Request) -> Result<(), NoChannel>
         requires source { q.source < tiles self.old.grid }
         requires absent { IsAbsent self.old.copies (name_of q) }
-        ensures ok { OnOk result (entered self.old.grid self.old.copies q ≡ Some self.new.copies) }
-        ensures err { OnErr result (entered self.old.grid self.old.copies q ≡ None) }
+        ensures ok { OnOk result (after_entry self.old.grid self.old.copies q ≡ Some self.new.copies) }
+        ensures err { OnErr result (after_entry self.old.grid self.old.copies q ≡ None) }
         ensures kept { OnErr result (self.new ≡ self.old) }
         ensures owed { OnOk result (OwesMore self.old.grid q self.old.copies self.new.copies) }
         ensures requests { OnOk result (ComesAlone q self.old.copies self.new.copies) }
@@ -96,8 +96,8 @@ impl Routers {
         out: Port,
         expected: Option<(u8, u32)>,
     ) -> Result<(), NotEnabled>
-        ensures ok { OnOk result (hopped self.old.grid self.old.copies r port slot out expected ≡ Some self.new.copies) }
-        ensures err { OnErr result (hopped self.old.grid self.old.copies r port slot out expected ≡ None) }
+        ensures ok { OnOk result (after_hop self.old.grid self.old.copies r port slot out expected ≡ Some self.new.copies) }
+        ensures err { OnErr result (after_hop self.old.grid self.old.copies r port slot out expected ≡ None) }
         ensures kept { OnErr result (self.new ≡ self.old) }
         ensures owed { OnOk result (OwesSame self.old.grid self.old.copies self.new.copies) }
         ensures requests { NoneComes self.old.copies self.new.copies }
@@ -106,7 +106,7 @@ impl Routers {
         ensures grid { self.new.grid ≡ self.old.grid }
         ensures vcs { self.new.vcs ≡ self.old.vcs }
     {
-        let Some(way) = self.find_way(r, port, slot, out, expected) else {
+        let Some(way) = self.find_hop(r, port, slot, out, expected) else {
             return Err(NotEnabled);
         };
         let copy = self.arriving(way.to, way.copy.request);
@@ -125,7 +125,7 @@ impl Routers {
     /// The request that a copy owes the router's own tile, which is owed no more: the copy leaves by the local port.
     pub fn serve_local(&mut self, r: u8, id: (u8, u32)) -> Request
         requires { IsSome (local_place self.old.copies r id) }
-        ensures served { served self.old.copies r id ≡ Some (result, self.new.copies) }
+        ensures served { after_serve self.old.copies r id ≡ Some (result, self.new.copies) }
         ensures name { name_of result ≡ id }
         ensures owed { OwesLess self.old.grid r result self.old.copies self.new.copies }
         ensures requests { NoneComes self.old.copies self.new.copies }
@@ -148,7 +148,7 @@ impl Routers {
     pub fn can_inject(&self, q: Request) -> bool
         requires source { q.source < tiles self.now.grid }
         requires absent { IsAbsent self.now.copies (name_of q) }
-        ensures { result ≡ is_some (entered self.now.grid self.now.copies q) }
+        ensures { result ≡ is_some (after_entry self.now.grid self.now.copies q) }
     {
         free_slot(&self.banks, q.source, Port::L).is_some()
     }
@@ -162,17 +162,17 @@ impl Routers {
         out: Port,
         expected: Option<(u8, u32)>,
     ) -> bool
-        ensures { result ≡ is_some (hopped self.now.grid self.now.copies r port slot out expected) }
+        ensures { result ≡ is_some (after_hop self.now.grid self.now.copies r port slot out expected) }
     {
-        self.find_way(r, port, slot, out, expected).is_some()
+        self.find_hop(r, port, slot, out, expected).is_some()
     }
 }
 
 impl Routers {
     ghost use Rattle.std.specs.Prelude.{◌≡◌, ◌<◌, IfSome, IfNone, None};
     ghost use Rattle.mesh_gen.specs.Grid.{tiles};
-    ghost use Rattle.chip_model.specs.Copies.{arriving, hopped, local_place};
-    ghost use Rattle.router_xy.specs.RequestNetwork.{IsWay, numbered};
+    ghost use Rattle.chip_model.specs.Copies.{arriving, after_hop, local_place};
+    ghost use Rattle.router_xy.specs.RequestNetwork.{IsOpenHop, numbered};
 
     // A copy that comes to a router owes every port of the tree there.
     fn arriving(&self, r: u8, q: Request) -> NetCopy
@@ -187,7 +187,7 @@ impl Routers {
     }
 
     // The way of a copy out of a channel by a side, where it can go.
-    fn find_way(
+    fn find_hop(
         &self,
         r: u8,
         port: Port,
@@ -195,8 +195,8 @@ impl Routers {
         out: Port,
         expected: Option<(u8, u32)>,
     ) -> Option<Way>
-        ensures some { IfSome result (λ way. IsWay self.now.grid self.now.copies r port slot out expected way) }
-        ensures none { IfNone result (hopped self.now.grid self.now.copies r port slot out expected ≡ None) }
+        ensures some { IfSome result (λ way. IsOpenHop self.now.grid self.now.copies r port slot out expected way) }
+        ensures none { IfNone result (after_hop self.now.grid self.now.copies r port slot out expected ≡ None) }
     {
         let Some(copy) = packet_at(&self.banks, r, port, slot) else {
             return None;

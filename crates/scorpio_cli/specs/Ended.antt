@@ -15,10 +15,10 @@ status_of NoMemory = 6
 status_of TooLong = 7
 
 -- the document's fault, where the end speaks of one
-abbrev pub fault_of : Stop → Option DocFault
-fault_of (Document fault) = Some fault
-fault_of _ = None
+abbrev pub fault_of_stop : Stop → Option DocFault
+fault_of_stop (Document fault) = Some fault
+fault_of_stop _ = None
 
 abbrev pub ended_of : Result Unit Stop → Ended
 ended_of (Ok done) = record { status = 0; at = 0; doc_fault = None }
-ended_of (Err stop) = record { status = status_of stop; at = 0; doc_fault = fault_of stop }
+ended_of (Err stop) = record { status = status_of stop; at = 0; doc_fault = fault_of_stop stop }

@@ -8,7 +8,7 @@ use Rattle.scorpio_cli.specs.declared.ended.Ended.{Ended}
 abbrev pub usage : List ℕ
 usage = codes "usage:\n  scorpio order\n  scorpio show\n  scorpio deliver"
 
--- what is said of a status that comes without a fault of the description
+-- what is said of a status that comes without a fault of the document
 abbrev pub said_of : ℕ → List ℕ
 said_of status =
     if status == 1 then usage

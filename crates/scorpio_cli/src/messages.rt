@@ -7,7 +7,7 @@ use std::fmt;
 
 const USAGE: &str = "usage:\n  scorpio order\n  scorpio show\n  scorpio deliver";
 
-// What is said of a status that comes without a fault of the description.
+// What is said of a status that comes without a fault of the document.
 fn said_of(status: u8) -> &'static str
     ensures { result.now ≡ said_of status }
 {

@@ -9,15 +9,15 @@ use outside_io::{Sink, Source};
 use std::alloc::Global;
 
 /// Does what the arguments say, over what comes from the source, into the sink: all that the program does.
-/// `order` writes the order of the requests that the description posts, `show` the description in its canonical text, and
-/// `deliver` the sources of the requests that each tile has delivered once all that the description posts was broadcast.
+/// `order` writes the order of the requests that the document posts, `show` the document in its canonical text, and
+/// `deliver` the sources of the requests that each tile has delivered once all that the document posts was broadcast.
 pub fn scorpio<S: Source, K: Sink>(
     alloc: Global,
     words: &[&str],
     source: &mut S,
     sink: &mut K,
 ) -> Ended
-    // It ended well: a whole text of the description was written.
+    // It ended well: a whole text of the document was written.
     ensures ok { result.status ≡ 0 → WritesText (map (λ word. word.now) words.now) (S.left source.old) (K.held sink.old) (K.held sink.new) }
 
     // Why it ended otherwise.

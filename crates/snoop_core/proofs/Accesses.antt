@@ -15,7 +15,7 @@ use Rattle.chip_model.specs.Chip.{Chip, line_of}
 use Rattle.chip_model.specs.Cache.{Held, Cache, lookup, has_room, fits, installed, without_line, without_shared, lowest_for}
 use Rattle.chip_model.specs.Misses.{Demand, WriteBack, Misses, is_written_back, request_for, new_demand, new_back, sent_demand, marked_sent}
 use Rattle.chip_model.specs.Snoop.{CacheSide, with_demand, with_back, with_cache, written_by}
-use Rattle.chip_model.specs.Node.{Node, Performed, has_entry, holds_back, with_side, load_hit, demand_started, back_started, room_made, missed, unless_written_back, store_to, accessed_with, accessed}
+use Rattle.chip_model.specs.Node.{Node, Performed, has_entry, holds_back, with_side, load_hit, demand_started, back_started, victim_evicted, missed, unless_written_back, store_to, accessed_with, node_after_access}
 use Rattle.chip_model.specs.NodeShape.{IsCache, is_modified_state, is_modified, DemandFits, SideFits}
 use Rattle.snoop_core.proofs.Options.{none_some, when_some}
 use Rattle.snoop_core.proofs.CacheMaps.{DropsShared, drops_shared, PutsBack, puts_back, lookup-line, lookup-without_line, lookup-installed, fits_held, fits_room, IsCache-without_line, IsCache-installed}
@@ -68,7 +68,7 @@ room_forms : (access : Pending) (node : Node) (freed : Option Cache) (performed 
     → IsCache node.chip node.side.cache → is_written_back (line_of access.address) node.side.misses.back ≡ false
     → lookup node.chip node.side.cache (line_of access.address) ≡ None → has_room node.chip node.side.cache (line_of access.address) ≡ false
     → without_shared node.chip (line_of access.address) node.side.cache ≡ freed → AccessForms node (line_of access.address) P
-    → room_made access node freed ≡ Some performed → P performed.0
+    → victim_evicted access node freed ≡ Some performed → P performed.0
 room_forms access node (Some new) performed P cache apart absent full freed forms is =
     subst (λ (p : Performed). P p.0) (same_Some _ performed is)
     (forms.made_room access refl apart absent new (drops_shared node.chip (line_of access.address) node.side.cache new cache freed))
@@ -79,7 +79,7 @@ missed_forms : (access : Pending) (node : Node) (b : Bool) (performed : Performe
     → IsCache node.chip node.side.cache → is_written_back (line_of access.address) node.side.misses.back ≡ false
     → lookup node.chip node.side.cache (line_of access.address) ≡ None → has_room node.chip node.side.cache (line_of access.address) ≡ b
     → AccessForms node (line_of access.address) P
-    → (if b then Some (demand_started access node.side node) else room_made access node (without_shared node.chip (line_of access.address) node.side.cache))
+    → (if b then Some (demand_started access node.side node) else victim_evicted access node (without_shared node.chip (line_of access.address) node.side.cache))
     ≡ Some performed
     → P performed.0
 missed_forms access node true performed P cache apart absent room forms is =
@@ -132,8 +132,8 @@ accessed_forms access node (Some held) performed P cache there forms is =
 
 pub access_forms : (access : Pending) (node : Node) (performed : Performed) (P : Node → Type 0)
     → IsCache node.chip node.side.cache
-    → AccessForms node (line_of access.address) P → accessed access node ≡ Some performed → P performed.0
-unfolding accessed
+    → AccessForms node (line_of access.address) P → node_after_access access node ≡ Some performed → P performed.0
+unfolding node_after_access
 access_forms access node performed P cache forms is =
     when_some (not (has_entry node))
     (accessed_with access node (lookup node.chip node.side.cache (line_of access.address))) performed is (λ free done.
@@ -141,8 +141,8 @@ access_forms access node performed P cache forms is =
 
 -- ---- an access is done where no other one waits
 pub accessed_free : (access : Pending) (node : Node) (performed : Performed)
-    → accessed access node ≡ Some performed → node.side.misses.demand ≡ None
-unfolding accessed
+    → node_after_access access node ≡ Some performed → node.side.misses.demand ≡ None
+unfolding node_after_access
 accessed_free access node performed is =
     when_some (not (has_entry node))
     (accessed_with access node (lookup node.chip node.side.cache (line_of access.address))) performed is (λ free done.
@@ -186,9 +186,9 @@ SideFits-started chip side cache access apart gone is fit unmodified absent =
       demand = λ demand stands. let same : started_by access ≡ demand = cc in
           subst (λ (d : Demand). DemandFits chip cache d) same fresh;
       back = gone;
-      apart = λ demand back stands stands_back. let same : started_by access ≡ demand = cc in
+      apart = λ demand back stands write_back_is. let same : started_by access ≡ demand = cc in
           subst (λ (d : Demand). (d.line == back.line) ≡ false) same
-          (apart_from (line_of access.address) side.misses.back back apart stands_back);
+          (apart_from (line_of access.address) side.misses.back back apart write_back_is);
     }
 
 -- ---- a line that is written back
@@ -200,7 +200,7 @@ SideFits-put chip side held none is = record {
   back = λ back stands. let same : new_back held.line held.words ≡ back = cc in
       subst (λ (b : WriteBack). lookup chip (without_line chip held.line side.cache) b.line ≡ None) same
       (grind (arith, nat_tests, lookup-without_line chip side.cache held.line held.line));
-  apart = λ demand back stands stands_back. absurd (none_some side.misses.demand demand none stands);
+  apart = λ demand back stands write_back_is. absurd (none_some side.misses.demand demand none stands);
 }
 
 -- ---- a copy that is written
@@ -215,7 +215,7 @@ SideFits-wrote chip side line held words no_demand there is =
       cache = IsCache-installed chip side.cache (record held { words = words }) fit is.cache;
       demand = λ demand stands. absurd (none_some side.misses.demand demand no_demand stands);
       back = λ back stands. grind (arith, nat_tests, lookup-installed chip side.cache (record held { words = words }) back.line fit, at, is.back back stands);
-      apart = λ demand back stands stands_back. absurd (none_some side.misses.demand demand no_demand stands);
+      apart = λ demand back stands write_back_is. absurd (none_some side.misses.demand demand no_demand stands);
     }
 
 -- without the shared line that makes room the missed line is still absent
@@ -236,10 +236,10 @@ back_still chip side line new drops is back stands =
     ∙ grind (arith, nat_tests, lookup-without_line chip side.cache drops.was.line back.line, is.back back stands)
 
 -- an access keeps the shape
-pub SideFits-accessed : (access : Pending) (node : Node) (performed : Performed)
-    → accessed access node ≡ Some performed
+pub SideFits-node_after_access : (access : Pending) (node : Node) (performed : Performed)
+    → node_after_access access node ≡ Some performed
     → SideFits node.chip node.side → SideFits performed.0.chip performed.0.side
-SideFits-accessed access node performed done is =
+SideFits-node_after_access access node performed done is =
     let free = accessed_free access node performed done in
     let chip = node.chip in
     let cache = node.side.cache in
@@ -303,8 +303,8 @@ SideFits-get_sent chip side is = record {
   demand = λ demand now. let was = sent_was side.misses.demand demand now in
       subst (λ (x : Demand). DemandFits chip side.cache x) (sym was.2) (sent_fits chip side.cache was.0 (is.demand was.0 was.1));
   back = is.back;
-  apart = λ demand back now stands_back. let was = sent_was side.misses.demand demand now in
-      subst (λ (x : Demand). (x.line == back.line) ≡ false) (sym was.2) (is.apart was.0 back was.1 stands_back);
+  apart = λ demand back now write_back_is. let was = sent_was side.misses.demand demand now in
+      subst (λ (x : Demand). (x.line == back.line) ≡ false) (sym was.2) (is.apart was.0 back was.1 write_back_is);
 }
 
 SideFits-put_sent : (chip : Chip) (side : CacheSide) (back : WriteBack) → side.misses.back ≡ Some back → SideFits chip side
@@ -314,8 +314,8 @@ SideFits-put_sent chip side back stands is = record {
   demand = is.demand;
   back = λ b now. let same : record back { sent = true } ≡ b = cc in
       subst (λ (x : WriteBack). lookup chip side.cache x.line ≡ None) same (is.back back stands);
-  apart = λ demand b stands_demand now. let same : record back { sent = true } ≡ b = cc in
-      subst (λ (x : WriteBack). (demand.line == x.line) ≡ false) same (is.apart demand back stands_demand stands);
+  apart = λ demand b demand_is now. let same : record back { sent = true } ≡ b = cc in
+      subst (λ (x : WriteBack). (demand.line == x.line) ≡ false) same (is.apart demand back demand_is stands);
 }
 
 pub SideFits-marked_sent : (chip : Chip) (side : CacheSide) → SideFits chip side
@@ -328,7 +328,7 @@ SideFits-marked_sent chip side is = sent_forms side.misses.demand side.misses.ba
 
 -- an access changes the cache side alone
 pub accessed_frame : (access : Pending) (node : Node) (performed : Performed)
-    → accessed access node ≡ Some performed → IsCache node.chip node.side.cache
+    → node_after_access access node ≡ Some performed → IsCache node.chip node.side.cache
     → performed.0 ≡ with_side performed.0.side node
 accessed_frame access node performed done is = access_forms access node performed
     (λ after. after ≡ with_side after.side node) is (record {

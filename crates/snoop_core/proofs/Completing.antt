@@ -13,11 +13,11 @@ use Rattle.chip_model.specs.Misses.{Demand, Misses, is_getm}
 use Rattle.chip_model.specs.Snoop.{CacheSide, Outcome, quiet, written_by, done_by, data_to, data_to_all, kept_after_store, completed_store, completed_load}
 use Rattle.line_cache.specs.Sets.{copy_of}
 use Rattle.miss_table.specs.Table.{list_of}
-use Rattle.snoop_core.specs.ChipSides.{ChipSide, left_by, completion}
+use Rattle.snoop_core.specs.ChipSides.{ChipSide, after_outcome, completion}
 
 -- what is left where these parts are now
 pub left : (old : ChipSide) (chip : Chip) (before now : CacheSide) (outcome : Outcome) → record { chip = chip; side = before } ≡ old → now ≡ outcome.side
-    → record { chip = chip; side = now } ≡ left_by outcome old
+    → record { chip = chip; side = now } ≡ after_outcome outcome old
 left old chip before now outcome is same =
     ap (λ (s : CacheSide). record { chip = chip; side = s }) same
     ∙ ap (λ (site : ChipSide). record { chip = site.chip; side = outcome.side }) is

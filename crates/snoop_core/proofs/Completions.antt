@@ -9,7 +9,7 @@ use Rattle.chip_model.specs.declared.waiting.Waiting.{Waiting}
 use Rattle.chip_model.specs.Chip.{Chip}
 use Rattle.chip_model.specs.Cache.{Cache, is_shared, installed, without_line}
 use Rattle.chip_model.specs.Misses.{Demand, is_getm, ends_in_getm}
-use Rattle.chip_model.specs.Snoop.{CacheSide, with_demand, with_cache, line_gone, written_by, kept_after_store, kept_after_load, completed_load, completed_store, completed, data_at, data_for, data_arrived}
+use Rattle.chip_model.specs.Snoop.{CacheSide, with_demand, with_cache, line_gone, written_by, kept_after_store, kept_after_load, completed_load, completed_store, completed, data_at, data_for, after_data}
 use Rattle.chip_model.specs.NodeShape.{DemandFits, SideFits}
 use Rattle.snoop_core.specs.Requests.{DataFits}
 use Rattle.snoop_core.proofs.Sides.{SideFits-without_line, SideFits-demand, SideFits-served, SideFits-installed}
@@ -98,11 +98,11 @@ SideFits-data_for chip side words (Some demand) stands sent is = SideFits-data_a
     (sent demand refl) refl is
 
 -- the words of a demand that was sent keep the shape
-pub SideFits-data_arrived : (chip : Chip) (side : CacheSide) (words : List ℕ)
+pub SideFits-after_data : (chip : Chip) (side : CacheSide) (words : List ℕ)
     → ((demand : Demand) → side.misses.demand ≡ Some demand → demand.sent ≡ true)
-    → SideFits chip side → SideFits chip (data_arrived chip side words).side
-unfolding data_arrived
-SideFits-data_arrived chip side words sent is = SideFits-data_for chip side words side.misses.demand refl sent is
+    → SideFits chip side → SideFits chip (after_data chip side words).side
+unfolding after_data
+SideFits-after_data chip side words sent is = SideFits-data_for chip side words side.misses.demand refl sent is
 
 -- the demand for which a message comes was sent
 pub sent_before : (side : CacheSide) (msg : Msg) → msg.kind ≡ Data → DataFits side msg → (demand : Demand)

@@ -92,7 +92,7 @@ not_open_ended line None demand stands ends = cc
 not_open_ended line (Some entry) demand stands ends = grind (arith, nat_tests)
 
 -- ---- what is held, told back
--- an ordered demand of a store, behind which the line goes on to none that is to write
+-- an ordered demand of a store, after which the line goes on to none that is to write
 pub record IsOpenWrite (side : CacheSide) (line : ℕ) (demand : Demand) : Type 0 where
   pub stands : side.misses.demand ≡ Some demand
   pub at : demand.line ≡ line

@@ -14,9 +14,9 @@ use Rattle.chip_model.specs.declared.line_state.State.TheVariants.{O, S}
 use Rattle.chip_model.specs.Chip.{Chip, line_of}
 use Rattle.chip_model.specs.Cache.{Held, Cache, lookup, fits, installed, without_line}
 use Rattle.chip_model.specs.Misses.{Demand, WriteBack, new_back, sent_demand, marked_sent}
-use Rattle.chip_model.specs.Snoop.{CacheSide, with_demand, with_back, with_cache, line_gone, made_owned, made_stale, ordered_with, own_get, own_put, own_request, snooped_with, snooped, holding, completed, data_at, data_for, data_arrived}
+use Rattle.chip_model.specs.Snoop.{CacheSide, with_demand, with_back, with_cache, line_gone, made_owned, made_stale, ordered_with, own_get, own_put, own_request, snooped_with, after_snoop, holding, completed, data_at, data_for, after_data}
 use Rattle.chip_model.specs.Records.{LineRecord, Records, answered_at, answered, returned_at, back_arrived}
-use Rattle.chip_model.specs.Node.{Node, Performed, with_side, request_delivered, arrived_as, message_arrived, request_sent, message_sent, accessed}
+use Rattle.chip_model.specs.Node.{Node, Performed, with_side, node_after_request, arrived_as, node_after_message, after_request_sent, after_message_sent, node_after_access}
 use Rattle.chip_model.specs.NodeShape.{SideFits, LinesFit}
 use Rattle.snoop_core.specs.Lines.{LinesBelow}
 use Rattle.snoop_core.proofs.CacheMaps.{DropsShared, lookup-line, lookup-without_line, lookup-installed, fits_held}
@@ -134,10 +134,10 @@ own_inside chip side place GetS fits is = get_inside chip side place side.misses
 own_inside chip side place GetM fits is = get_inside chip side place side.misses.demand refl fits is
 own_inside chip side place PutM fits is = put_inside chip side side.misses.back is
 
-pub LinesBelow-snooped : (chip : Chip) (tile : ℕ) (side : CacheSide) (place : ℕ) (q : Request) → SideFits chip side → LinesBelow chip side
-    → LinesBelow chip (snooped chip tile side place q).side
-unfolding snooped
-LinesBelow-snooped chip tile side place q fits is =
+pub LinesBelow-after_snoop : (chip : Chip) (tile : ℕ) (side : CacheSide) (place : ℕ) (q : Request) → SideFits chip side → LinesBelow chip side
+    → LinesBelow chip (after_snoop chip tile side place q).side
+unfolding after_snoop
+LinesBelow-after_snoop chip tile side place q fits is =
     cond_both (q.source == tile) (own_request chip side place q.kind) (snooped_with chip q side (holding chip side q.line) q.kind)
     (λ outcome. LinesBelow chip outcome.side)
     (λ same. own_inside chip side place q.kind fits is)
@@ -155,10 +155,10 @@ for_inside : (chip : Chip) (side : CacheSide) (words : List ℕ) (entry : Option
 for_inside chip side words None stands fits is = is
 for_inside chip side words (Some demand) stands fits is = at_inside chip side words demand demand.ordered stands fits is
 
-pub LinesBelow-data_arrived : (chip : Chip) (side : CacheSide) (words : List ℕ) → SideFits chip side → LinesBelow chip side
-    → LinesBelow chip (data_arrived chip side words).side
-unfolding data_arrived
-LinesBelow-data_arrived chip side words fits is = for_inside chip side words side.misses.demand refl fits is
+pub LinesBelow-after_data : (chip : Chip) (side : CacheSide) (words : List ℕ) → SideFits chip side → LinesBelow chip side
+    → LinesBelow chip (after_data chip side words).side
+unfolding after_data
+LinesBelow-after_data chip side words fits is = for_inside chip side words side.misses.demand refl fits is
 
 -- ---- the request is sent
 get_sent_inside : (chip : Chip) (side : CacheSide) → LinesBelow chip side
@@ -213,10 +213,10 @@ wrote_inside chip side line held words there is =
     ∙ ap is_some there in
     LinesBelow-installed chip side (record held { words = words }) (fits_held chip side.cache held.line some) (is.cached held.line some) is
 
-pub LinesBelow-accessed : (access : Pending) (node : Node) (performed : Performed)
-    → accessed access node ≡ Some performed → access.address < 4 * node.chip.lines
+pub LinesBelow-node_after_access : (access : Pending) (node : Node) (performed : Performed)
+    → node_after_access access node ≡ Some performed → access.address < 4 * node.chip.lines
     → SideFits node.chip node.side → LinesBelow node.chip node.side → LinesBelow performed.0.chip performed.0.side
-LinesBelow-accessed access node performed done inside fits is =
+LinesBelow-node_after_access access node performed done inside fits is =
     let here : line_of access.address < node.chip.lines = line_inside access.address node.chip.lines inside in
     let at : (a : Pending) → line_of a.address ≡ line_of access.address → line_of a.address < node.chip.lines = λ a same. subst (λ (l : ℕ). l < node.chip.lines)
     (sym same) here in
@@ -263,11 +263,11 @@ records-back_arrived at words records line = returned_some at words records (sli
 pub lines_below : (node : Node) → LinesFit node → LinesBelow node.chip node.side
 lines_below node is = record { cached = is.cached; demand = is.demand; back = is.back }
 
-pub LinesFit-request_delivered : (q : Request) (node : Node) → SideFits node.chip node.side → LinesFit node
-    → LinesFit (request_delivered q node).0
-unfolding request_delivered
-LinesFit-request_delivered q node fits is =
-    let now = LinesBelow-snooped node.chip node.tile node.side node.delivered q fits (lines_below node is) in
+pub LinesFit-node_after_request : (q : Request) (node : Node) → SideFits node.chip node.side → LinesFit node
+    → LinesFit (node_after_request q node).0
+unfolding node_after_request
+LinesFit-node_after_request q node fits is =
+    let now = LinesBelow-after_snoop node.chip node.tile node.side node.delivered q fits (lines_below node is) in
     record {
       cached = now.cached;
       demand = now.demand;
@@ -278,7 +278,7 @@ LinesFit-request_delivered q node fits is =
 arrived_lines : (msg : Msg) (node : Node) (kind : MsgKind) → SideFits node.chip node.side → LinesFit node
     → LinesFit (arrived_as msg node kind).0
 arrived_lines msg node Data fits is =
-    let now = LinesBelow-data_arrived node.chip node.side msg.words fits (lines_below node is) in
+    let now = LinesBelow-after_data node.chip node.side msg.words fits (lines_below node is) in
     record { cached = now.cached; demand = now.demand; back = now.back; records = is.records }
 arrived_lines msg node Back fits is = record {
   cached = is.cached;
@@ -287,29 +287,29 @@ arrived_lines msg node Back fits is = record {
   records = λ line inside. records-back_arrived msg.line msg.words node.records line ∙ is.records line inside;
 }
 
-pub LinesFit-message_arrived : (msg : Msg) (node : Node) → SideFits node.chip node.side → LinesFit node
-    → LinesFit (message_arrived msg node).0
-unfolding message_arrived
-LinesFit-message_arrived msg node fits is = arrived_lines msg node msg.kind fits is
+pub LinesFit-node_after_message : (msg : Msg) (node : Node) → SideFits node.chip node.side → LinesFit node
+    → LinesFit (node_after_message msg node).0
+unfolding node_after_message
+LinesFit-node_after_message msg node fits is = arrived_lines msg node msg.kind fits is
 
-pub LinesFit-request_sent : (node : Node) → LinesFit node → LinesFit (request_sent node)
-unfolding request_sent
-LinesFit-request_sent node is =
+pub LinesFit-after_request_sent : (node : Node) → LinesFit node → LinesFit (after_request_sent node)
+unfolding after_request_sent
+LinesFit-after_request_sent node is =
     let now = LinesBelow-marked_sent node.chip node.side (lines_below node is) in
     record { cached = now.cached; demand = now.demand; back = now.back; records = is.records }
 
-pub LinesFit-message_sent : (node : Node) → LinesFit node → LinesFit (message_sent node)
-unfolding message_sent
-LinesFit-message_sent node is = record { cached = is.cached; demand = is.demand; back = is.back; records = is.records }
+pub LinesFit-after_message_sent : (node : Node) → LinesFit node → LinesFit (after_message_sent node)
+unfolding after_message_sent
+LinesFit-after_message_sent node is = record { cached = is.cached; demand = is.demand; back = is.back; records = is.records }
 
 lines_with : (node : Node) (side : CacheSide) → LinesFit node → LinesBelow node.chip side → LinesFit (with_side side node)
 lines_with node side is now = record { cached = now.cached; demand = now.demand; back = now.back; records = is.records }
 
-pub LinesFit-accessed : (access : Pending) (node : Node) (performed : Performed)
-    → accessed access node ≡ Some performed → access.address < 4 * node.chip.lines
+pub LinesFit-node_after_access : (access : Pending) (node : Node) (performed : Performed)
+    → node_after_access access node ≡ Some performed → access.address < 4 * node.chip.lines
     → SideFits node.chip node.side → LinesFit node → LinesFit performed.0
-LinesFit-accessed access node performed done inside fits is =
-    let now = LinesBelow-accessed access node performed done inside fits (lines_below node is) in
+LinesFit-node_after_access access node performed done inside fits is =
+    let now = LinesBelow-node_after_access access node performed done inside fits (lines_below node is) in
     let same = accessed_frame access node performed done fits.cache in
     subst (λ (n : Node). LinesFit n) (sym same)
     (lines_with node performed.0.side is (subst (λ (n : Node). LinesBelow n.chip n.side) same now))

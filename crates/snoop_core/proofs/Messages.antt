@@ -16,9 +16,9 @@ use Rattle.chip_model.specs.declared.owner.Owner.TheVariants.{Memory, Tile}
 use Rattle.chip_model.specs.declared.waiting.Waiting.{Waiting}
 use Rattle.chip_model.specs.Chip.{Chip, home}
 use Rattle.chip_model.specs.Misses.{Demand, WriteBack, is_getm, sent_by, marked_sent}
-use Rattle.chip_model.specs.Snoop.{CacheSide, Outcome, written_by, data_to, data_to_all, completed_load, completed_store, completed, stale_back, ordered_with, own_get, own_put, own_request, snooped_with, snooped, holding, data_at, data_for, data_arrived}
-use Rattle.chip_model.specs.Records.{LineRecord, Records, answered_by, from_memory, behind_back, owned_by_tile, answered_at, answered, returned_at, back_arrived}
-use Rattle.chip_model.specs.Node.{Node, Performed, is_back, holds_back, request_delivered, arrived_as, message_arrived, request_sent, message_sent, accessed}
+use Rattle.chip_model.specs.Snoop.{CacheSide, Outcome, written_by, data_to, data_to_all, completed_load, completed_store, completed, stale_back, ordered_with, own_get, own_put, own_request, snooped_with, after_snoop, holding, data_at, data_for, after_data}
+use Rattle.chip_model.specs.Records.{LineRecord, Records, answered_by, from_memory, awaiting_write_back, owned_by_tile, answered_at, answered, returned_at, back_arrived}
+use Rattle.chip_model.specs.Node.{Node, Performed, is_back, holds_back, node_after_request, arrived_as, node_after_message, after_request_sent, after_message_sent, node_after_access}
 use Rattle.chip_model.specs.NodeShape.{OneBack, IsCache, SideFits}
 use Rattle.snoop_core.specs.Requests.{MeetsDemand, MeetsOwn, OwnRequestFits}
 use Rattle.miss_table.specs.Table.{list_of}
@@ -148,10 +148,10 @@ own_sends chip side place q GetM meets is = get_sends chip side place q meets is
 own_sends chip side place q PutM meets is = put_sends chip side side.misses.back refl
 
 -- a request queues one message of the cache side at most
-pub SendsAtMost-snooped : (chip : Chip) (tile : ℕ) (side : CacheSide) (place : ℕ) (q : Request) → OwnRequestFits tile side q
-    → SideFits chip side → SendsAtMost side 1 (snooped chip tile side place q)
-unfolding snooped
-SendsAtMost-snooped chip tile side place q own is =
+pub SendsAtMost-after_snoop : (chip : Chip) (tile : ℕ) (side : CacheSide) (place : ℕ) (q : Request) → OwnRequestFits tile side q
+    → SideFits chip side → SendsAtMost side 1 (after_snoop chip tile side place q)
+unfolding after_snoop
+SendsAtMost-after_snoop chip tile side place q own is =
     cond_both (q.source == tile) (own_request chip side place q.kind) (snooped_with chip q side (holding chip side q.line) q.kind)
     (λ outcome. SendsAtMost side 1 outcome)
     (λ same. own_sends chip side place q q.kind (own (eqb-true q.source tile same)) is)
@@ -168,11 +168,11 @@ for_sends : (chip : Chip) (side : CacheSide) (words : List ℕ) (entry : Option 
 for_sends chip side words None = sends_none side 0 _ refl refl
 for_sends chip side words (Some demand) = at_sends chip side words demand demand.ordered
 
--- words that come queue a message for each that waits behind the demand at most
-pub SendsAtMost-data_arrived : (chip : Chip) (side : CacheSide) (words : List ℕ)
-    → SendsAtMost side (length (list_of side.misses.demand)) (data_arrived chip side words)
-unfolding data_arrived
-SendsAtMost-data_arrived chip side words = for_sends chip side words side.misses.demand
+-- words that come queue a message for each that waits for the demand at most
+pub SendsAtMost-after_data : (chip : Chip) (side : CacheSide) (words : List ℕ)
+    → SendsAtMost side (length (list_of side.misses.demand)) (after_data chip side words)
+unfolding after_data
+SendsAtMost-after_data chip side words = for_sends chip side words side.misses.demand
 
 -- ---- the controller sends data alone
 pub record SendsData (most : ℕ) (sends : List Msg) : Type 0 where
@@ -184,7 +184,7 @@ memory_sends q r GetS = record { count = omega arith; backs = refl }
 memory_sends q r GetM = record { count = omega arith; backs = refl }
 memory_sends q r PutM = record { count = omega arith; backs = refl }
 
-behind_sends : (q : Request) (r : LineRecord) (kind : Kind) → SendsData 1 (behind_back q r kind).sends
+behind_sends : (q : Request) (r : LineRecord) (kind : Kind) → SendsData 1 (awaiting_write_back q r kind).sends
 behind_sends q r GetS = record { count = omega arith; backs = refl }
 behind_sends q r GetM = record { count = omega arith; backs = refl }
 behind_sends q r PutM = record { count = omega arith; backs = refl }
@@ -196,7 +196,7 @@ tile_sends q r tile PutM = record { count = omega arith; backs = refl }
 
 owner_sends : (q : Request) (r : LineRecord) (owner : Owner) → SendsData 1 (answered_by q r owner).sends
 owner_sends q r Memory =
-    cond_both r.fresh (from_memory q r q.kind) (behind_back q r q.kind) (λ answer. SendsData 1 answer.sends)
+    cond_both r.fresh (from_memory q r q.kind) (awaiting_write_back q r q.kind) (λ answer. SendsData 1 answer.sends)
     (λ fresh. memory_sends q r q.kind)
     (λ stale. behind_sends q r q.kind)
 owner_sends q r (Tile tile) = tile_sends q r tile q.kind
@@ -231,13 +231,13 @@ SendsData-back_arrived line words records = returned_sends line words records (s
 backs-append : (before after : List Msg) → backs (before ++ after) ≡ backs before + backs after
 backs-append before after = sum_by-append _ before after
 
-pub OneBack-request_delivered : (q : Request) (node : Node) → OwnRequestFits node.tile node.side q → SideFits node.chip node.side
-    → OneBack node → OneBack (request_delivered q node).0
-unfolding request_delivered
-OneBack-request_delivered q node own fits one =
-    let outcome = snooped node.chip node.tile node.side node.delivered q in
+pub OneBack-node_after_request : (q : Request) (node : Node) → OwnRequestFits node.tile node.side q → SideFits node.chip node.side
+    → OneBack node → OneBack (node_after_request q node).0
+unfolding node_after_request
+OneBack-node_after_request q node own fits one =
+    let outcome = after_snoop node.chip node.tile node.side node.delivered q in
     let answers = answered q node.records in
-    let given = (SendsAtMost-snooped node.chip node.tile node.side node.delivered q own fits).backs in
+    let given = (SendsAtMost-after_snoop node.chip node.tile node.side node.delivered q own fits).backs in
     let data_alone = (SendsData-answered q node.records).backs in
     let whole : backs (node.out ++ outcome.sends ++ answers.sends) ≡ backs (node.out ++ outcome.sends) + backs answers.sends = backs-append
     (node.out ++ outcome.sends) answers.sends in
@@ -246,8 +246,8 @@ OneBack-request_delivered q node own fits one =
 
 arrived_one : (msg : Msg) (node : Node) (kind : MsgKind) → OneBack node → OneBack (arrived_as msg node kind).0
 arrived_one msg node Data one =
-    let outcome = data_arrived node.chip node.side msg.words in
-    let given = (SendsAtMost-data_arrived node.chip node.side msg.words).backs in
+    let outcome = after_data node.chip node.side msg.words in
+    let given = (SendsAtMost-after_data node.chip node.side msg.words).backs in
     let whole : backs (node.out ++ outcome.sends) ≡ backs node.out + backs outcome.sends = backs-append node.out outcome.sends in
     omega arith
 arrived_one msg node Back one =
@@ -256,9 +256,9 @@ arrived_one msg node Back one =
     let whole : backs (node.out ++ answers.sends) ≡ backs node.out + backs answers.sends = backs-append node.out answers.sends in
     omega arith
 
-pub OneBack-message_arrived : (msg : Msg) (node : Node) → OneBack node → OneBack (message_arrived msg node).0
-unfolding message_arrived
-OneBack-message_arrived msg node one = arrived_one msg node msg.kind one
+pub OneBack-node_after_message : (msg : Msg) (node : Node) → OneBack node → OneBack (node_after_message msg node).0
+unfolding node_after_message
+OneBack-node_after_message msg node one = arrived_one msg node msg.kind one
 
 sent_standing : (demand : Option Demand) (back : Option WriteBack) → count_if (is_some (sent_by demand back).back) ≡ count_if (is_some back)
 sent_standing demand back = sent_forms demand back (λ m. count_if (is_some m.back) ≡ count_if (is_some back)) (record {
@@ -266,9 +266,9 @@ sent_standing demand back = sent_forms demand back (λ m. count_if (is_some m.ba
   put = λ b stands. ap (λ (entry : Option WriteBack). count_if (is_some entry)) (sym stands);
 })
 
-pub OneBack-request_sent : (node : Node) → OneBack node → OneBack (request_sent node)
-unfolding request_sent marked_sent
-OneBack-request_sent node one =
+pub OneBack-after_request_sent : (node : Node) → OneBack node → OneBack (after_request_sent node)
+unfolding after_request_sent marked_sent
+OneBack-after_request_sent node one =
     let same = sent_standing node.side.misses.demand node.side.misses.back in
     omega arith
 
@@ -279,18 +279,18 @@ backs-rest (msg ∷ out) =
     let rest : backs (drop 1 (msg ∷ out)) ≡ backs out = refl in
     omega arith
 
-pub OneBack-message_sent : (node : Node) → OneBack node → OneBack (message_sent node)
-unfolding message_sent
-OneBack-message_sent node one = let fewer = backs-rest node.out in omega arith
+pub OneBack-after_message_sent : (node : Node) → OneBack node → OneBack (after_message_sent node)
+unfolding after_message_sent
+OneBack-after_message_sent node one = let fewer = backs-rest node.out in omega arith
 
 no_backs : (out : List Msg) → holds_back out ≡ false → backs out ≡ 0
 no_backs [] none = refl
 no_backs (msg ∷ out) none = grind (arith, no_backs out)
 
-pub OneBack-accessed : (access : Pending) (node : Node) (performed : Performed)
-    → accessed access node ≡ Some performed → IsCache node.chip node.side.cache
+pub OneBack-node_after_access : (access : Pending) (node : Node) (performed : Performed)
+    → node_after_access access node ≡ Some performed → IsCache node.chip node.side.cache
     → OneBack node → OneBack performed.0
-OneBack-accessed access node performed done is one = access_forms access node performed (λ after. OneBack after) is
+OneBack-node_after_access access node performed done is one = access_forms access node performed (λ after. OneBack after) is
     (record {
       hit = one;
       wrote = λ held there modified words. one;

@@ -13,7 +13,7 @@ use Rattle.line_cache.proofs.Found.{found-replicate}
 use Rattle.mem_ctrl.specs.Owners.{KeepsHomes}
 use Rattle.mem_ctrl.proofs.Opened.{opened_homes}
 use Rattle.snoop_core.specs.ChipSides.{ChipSide, opening_side}
-use Rattle.snoop_core.specs.Nodes.{IsSound}
+use Rattle.snoop_core.specs.Nodes.{NodeIsSound}
 use Rattle.snoop_core.proofs.NodeSteps.{node_of}
 
 -- ---- an empty cache
@@ -53,7 +53,7 @@ SideFits-opening_side chip = record {
   cache = IsCache-empty chip;
   demand = λ demand stands. cc;
   back = λ back stands. cc;
-  apart = λ demand back stands stands_back. cc;
+  apart = λ demand back stands write_back_is. cc;
 }
 
 -- ---- the records are those of the lines at home here
@@ -88,10 +88,10 @@ pub NodeFits-opening_node : (chip : Chip) (tile : ℕ) (memory : List ℕ) → N
 NodeFits-opening_node chip tile memory =
     NodeFits-opened chip tile (opening_records chip tile memory) (opened_homes chip tile memory (opening_records chip tile memory) refl)
 
-pub IsSound-opening : (chip : Chip) (site : ChipSide) (tile : ℕ) (records : Records) → site ≡ opening_side chip → tile < tile_count chip
-    → KeepsHomes chip tile records → IsSound (node_of site tile records [] 0)
-IsSound-opening chip site tile records is below homes =
-    subst (λ (s : ChipSide). IsSound (node_of s tile records [] 0)) (sym is) (record {
+pub NodeIsSound-opening : (chip : Chip) (site : ChipSide) (tile : ℕ) (records : Records) → site ≡ opening_side chip → tile < tile_count chip
+    → KeepsHomes chip tile records → NodeIsSound (node_of site tile records [] 0)
+NodeIsSound-opening chip site tile records is below homes =
+    subst (λ (s : ChipSide). NodeIsSound (node_of s tile records [] 0)) (sym is) (record {
       tile = below;
       fits = NodeFits-opened chip tile records homes;
       placed = λ demand place stands ordered. cc;

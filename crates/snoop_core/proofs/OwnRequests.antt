@@ -10,7 +10,7 @@ use Rattle.report_text.specs.declared.access.AccessKind.TheVariants.{Load, Store
 use Rattle.chip_model.specs.Chip.{Chip}
 use Rattle.chip_model.specs.Cache.{Held, Cache, lookup}
 use Rattle.chip_model.specs.Misses.{Demand, WriteBack, is_getm, request_for}
-use Rattle.chip_model.specs.Snoop.{CacheSide, owned_words, words_here, ordered_with, own_get, own_put, own_request, snooped_with, snooped, holding}
+use Rattle.chip_model.specs.Snoop.{CacheSide, owned_words, words_here, ordered_with, own_get, own_put, own_request, snooped_with, after_snoop, holding}
 use Rattle.chip_model.specs.Ownership.{is_owned_copy}
 use Rattle.chip_model.specs.NodeShape.{is_modified, DemandFits, SideFits}
 use Rattle.snoop_core.specs.Requests.{MeetsDemand, MeetsOwn, OwnRequestFits}
@@ -51,7 +51,7 @@ lacks_by chip side demand (Some words) is fits none = cc
 lacks_by chip side demand None is fits none =
     record { early = is; unowned = unowned_by chip side demand (is_getm demand.kind) refl fits none }
 
--- no words are here: none came early, and the copy is not owned
+-- no words are here: there is no early data, and the copy is not owned
 pub lacks_words : (chip : Chip) (side : CacheSide) (demand : Demand) → DemandFits chip side.cache demand
     → words_here chip side demand demand.early ≡ None → LacksWords chip side demand
 lacks_words chip side demand fits none = lacks_by chip side demand demand.early refl fits none
@@ -101,10 +101,10 @@ SideFits-own chip side place q GetM meets is = SideFits-own_get chip side place 
 SideFits-own chip side place q PutM meets is = SideFits-own_put chip side side.misses.back is
 
 -- every request keeps the shape
-pub SideFits-snooped : (chip : Chip) (tile : ℕ) (side : CacheSide) (place : ℕ) (q : Request) → OwnRequestFits tile side q
-    → SideFits chip side → SideFits chip (snooped chip tile side place q).side
-unfolding snooped
-SideFits-snooped chip tile side place q own is =
+pub SideFits-after_snoop : (chip : Chip) (tile : ℕ) (side : CacheSide) (place : ℕ) (q : Request) → OwnRequestFits tile side q
+    → SideFits chip side → SideFits chip (after_snoop chip tile side place q).side
+unfolding after_snoop
+SideFits-after_snoop chip tile side place q own is =
     cond_both (q.source == tile) (own_request chip side place q.kind) (snooped_with chip q side (holding chip side q.line) q.kind)
     (λ outcome. SideFits chip outcome.side)
     (λ same. SideFits-own chip side place q q.kind (own (eqb-true q.source tile same)) is)

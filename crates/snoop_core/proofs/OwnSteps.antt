@@ -10,9 +10,9 @@ use Rattle.mesh_gen.specs.declared.msg_kind.MsgKind.TheVariants.{Back}
 use Rattle.chip_model.specs.Chip.{Chip, home}
 use Rattle.chip_model.specs.Cache.{Cache, lookup}
 use Rattle.chip_model.specs.Misses.{Demand, WriteBack, Misses, is_getm}
-use Rattle.chip_model.specs.Snoop.{CacheSide, Outcome, quiet, with_demand, with_back, Holding, OwnedCopy, LiveBack, OpenWrite, OpenRead, SharedCopy, Nothing, holding, owned_words, data_arrived, snooped_with, own_put, own_request, snooped}
-use Rattle.miss_table.specs.Table.{Holds, IsOnItsWay, LacksWords, ordered_at, with_early}
-use Rattle.snoop_core.specs.ChipSides.{ChipSide, left_by, completion, words_for, own_get_at, own_put_of, met_by}
+use Rattle.chip_model.specs.Snoop.{CacheSide, Outcome, quiet, with_demand, with_back, Holding, OwnedCopy, LiveBack, OpenWrite, OpenRead, SharedCopy, Nothing, holding, owned_words, after_data, snooped_with, own_put, own_request, after_snoop}
+use Rattle.miss_table.specs.Table.{Holds, IsInFlight, LacksWords, ordered_at, with_early}
+use Rattle.snoop_core.specs.ChipSides.{ChipSide, after_outcome, completion, words_for, own_get_at, own_put_of, met_by}
 use Rattle.snoop_core.proofs.Completing.{left}
 
 -- ---- the words that are here
@@ -46,13 +46,13 @@ none_is : (o : Option ℕ) → o ≡ None → IsNone o
 none_is o is = ap is_some is
 
 -- it may be ordered
-pub on_its_way : (entry : Option Demand) (demand : Demand) → entry ≡ Some demand → demand.sent ≡ true → demand.ordered ≡ None → Holds IsOnItsWay entry
+pub on_its_way : (entry : Option Demand) (demand : Demand) → entry ≡ Some demand → demand.sent ≡ true → demand.ordered ≡ None → Holds IsInFlight entry
 on_its_way entry demand stands sent unordered =
-    subst (λ (e : Option Demand). Holds IsOnItsWay e) (sym stands) (record { sent = sent; unordered = none_is demand.ordered unordered })
+    subst (λ (e : Option Demand). Holds IsInFlight e) (sym stands) (record { sent = sent; unordered = none_is demand.ordered unordered })
 
 pub ordered_left : (old : ChipSide) (chip : Chip) (cache : Cache) (misses new : Misses) (demand : Demand) (place : ℕ) → record { chip = chip; side = record { cache = cache; misses = misses } } ≡ old
     → old.side.misses.demand ≡ Some demand → words_for old.side.misses.demand old ≡ None → new ≡ record misses { demand = option_map (ordered_at place) misses.demand }
-    → record { chip = chip; side = record { cache = cache; misses = new } } ≡ left_by (own_get_at place old) old
+    → record { chip = chip; side = record { cache = cache; misses = new } } ≡ after_outcome (own_get_at place old) old
 ordered_left old chip cache misses new demand place is stands none changed =
     let here : misses.demand ≡ Some demand = ap (λ (site : ChipSide). site.side.misses.demand) is ∙ stands in
     left old chip (record { cache = cache; misses = misses }) (record { cache = cache; misses = new }) (own_get_at place old) is
@@ -62,17 +62,17 @@ ordered_left old chip cache misses new demand place is stands none changed =
 
 -- ---- words for the demand
 pub data_completes : (site : ChipSide) (demand : Demand) (place : ℕ) (words : List ℕ) → site.side.misses.demand ≡ Some demand → demand.ordered ≡ Some place
-    → data_arrived site.chip site.side words ≡ completion place words site
-unfolding data_arrived
+    → after_data site.chip site.side words ≡ completion place words site
+unfolding after_data
 data_completes site demand place words stands ordered = rw (stands, ordered) refl
 
 pub data_waits : (site : ChipSide) (demand : Demand) (words : List ℕ) → site.side.misses.demand ≡ Some demand → demand.ordered ≡ None
-    → data_arrived site.chip site.side words ≡ quiet (with_demand (Some (with_early words demand)) site.side)
-unfolding data_arrived
+    → after_data site.chip site.side words ≡ quiet (with_demand (Some (with_early words demand)) site.side)
+unfolding after_data
 data_waits site demand words stands unordered = rw (stands, unordered) refl
 
-pub data_nowhere : (site : ChipSide) (words : List ℕ) → site.side.misses.demand ≡ None → data_arrived site.chip site.side words ≡ quiet site.side
-unfolding data_arrived
+pub data_nowhere : (site : ChipSide) (words : List ℕ) → site.side.misses.demand ≡ None → after_data site.chip site.side words ≡ quiet site.side
+unfolding after_data
 data_nowhere site words none = rw none refl
 
 wordless_is : (o : Option (List ℕ)) → o ≡ None → IsNone o
@@ -85,10 +85,10 @@ lacks_words_still entry demand stands sent unordered wordless =
 
 pub early_left : (old : ChipSide) (chip : Chip) (cache : Cache) (misses new : Misses) (demand : Demand) (words : List ℕ) → record { chip = chip; side = record { cache = cache; misses = misses } } ≡ old
     → old.side.misses.demand ≡ Some demand → demand.ordered ≡ None → new ≡ record misses { demand = option_map (with_early words) misses.demand }
-    → record { chip = chip; side = record { cache = cache; misses = new } } ≡ left_by (data_arrived old.chip old.side words) old
+    → record { chip = chip; side = record { cache = cache; misses = new } } ≡ after_outcome (after_data old.chip old.side words) old
 early_left old chip cache misses new demand words is stands unordered changed =
     let here : misses.demand ≡ Some demand = ap (λ (site : ChipSide). site.side.misses.demand) is ∙ stands in
-    left old chip (record { cache = cache; misses = misses }) (record { cache = cache; misses = new }) (data_arrived old.chip old.side words) is
+    left old chip (record { cache = cache; misses = misses }) (record { cache = cache; misses = new }) (after_data old.chip old.side words) is
     (ap (λ (m : Misses). record { cache = cache; misses = m }) (changed ∙ ap (λ (d : Option Demand). record misses { demand = option_map (with_early words) d }) here)
     ∙ ap (λ (site : ChipSide). with_demand (Some (with_early words demand)) site.side) is
     ∙ ap (λ (o : Outcome). o.side) (sym (data_waits old demand words stands unordered)))
@@ -110,21 +110,21 @@ pub put_message : (chip : Chip) (back : WriteBack) (line to : ℕ) (words : List
 put_message chip back line to words line_is words_is homes = rw (line_is, words_is, homes) refl
 
 -- ---- whose request it is
-pub snooped_other : (site : ChipSide) (tile place : ℕ) (q : Request) → (q.source ≡ tile → ⊥) → snooped site.chip tile site.side place q ≡ met_by q site
-unfolding snooped
+pub snooped_other : (site : ChipSide) (tile place : ℕ) (q : Request) → (q.source ≡ tile → ⊥) → after_snoop site.chip tile site.side place q ≡ met_by q site
+unfolding after_snoop
 snooped_other site tile place q apart =
     ap (λ (b : Bool). if b then own_request site.chip site.side place q.kind else met_by q site) (ne_eqb q.source tile apart)
 
-snooped_own : (site : ChipSide) (tile place : ℕ) (q : Request) → q.source ≡ tile → snooped site.chip tile site.side place q ≡ own_request site.chip site.side place q.kind
-unfolding snooped
+snooped_own : (site : ChipSide) (tile place : ℕ) (q : Request) → q.source ≡ tile → after_snoop site.chip tile site.side place q ≡ own_request site.chip site.side place q.kind
+unfolding after_snoop
 snooped_own site tile place q same =
     ap (λ (b : Bool). if b then own_request site.chip site.side place q.kind else met_by q site) (eq-eqb q.source tile same)
 
-pub snooped_get : (site : ChipSide) (tile place : ℕ) (q : Request) → q.source ≡ tile → (q.kind ≡ GetS) ⊎ (q.kind ≡ GetM) → snooped site.chip tile site.side place q ≡ own_get_at place site
+pub snooped_get : (site : ChipSide) (tile place : ℕ) (q : Request) → q.source ≡ tile → (q.kind ≡ GetS) ⊎ (q.kind ≡ GetM) → after_snoop site.chip tile site.side place q ≡ own_get_at place site
 snooped_get site tile place q same (inl reads) = snooped_own site tile place q same ∙ ap (λ (k : Kind). own_request site.chip site.side place k) reads
 snooped_get site tile place q same (inr writes) = snooped_own site tile place q same ∙ ap (λ (k : Kind). own_request site.chip site.side place k) writes
 
-pub snooped_put : (site : ChipSide) (tile place : ℕ) (q : Request) → q.source ≡ tile → q.kind ≡ PutM → snooped site.chip tile site.side place q ≡ own_put_of site
+pub snooped_put : (site : ChipSide) (tile place : ℕ) (q : Request) → q.source ≡ tile → q.kind ≡ PutM → after_snoop site.chip tile site.side place q ≡ own_put_of site
 snooped_put site tile place q same puts = snooped_own site tile place q same ∙ ap (λ (k : Kind). own_request site.chip site.side place k) puts
 
 -- no access is completed by another tile's request, nor by a put

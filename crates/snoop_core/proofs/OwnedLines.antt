@@ -10,7 +10,7 @@ use Rattle.chip_model.specs.declared.waiting.Waiting.{Waiting}
 use Rattle.chip_model.specs.Chip.{Chip}
 use Rattle.chip_model.specs.Cache.{Held, Cache, is_shared, lookup}
 use Rattle.chip_model.specs.Misses.{Demand, WriteBack, is_getm, ends_in_getm}
-use Rattle.chip_model.specs.Snoop.{CacheSide, with_demand, line_gone, made_owned, made_stale, stale_back, waits_behind, serves_once, snooped_with, holding}
+use Rattle.chip_model.specs.Snoop.{CacheSide, with_demand, line_gone, made_owned, made_stale, stale_back, deferred_to_demand, serves_once, snooped_with, holding}
 use Rattle.chip_model.specs.Ownership.{is_owned_copy, is_live_back, is_open_write, owns}
 use Rattle.chip_model.specs.NodeShape.{SideFits}
 use Rattle.snoop_core.proofs.CacheMaps.{lookup-without_line, lookup-installed, fits_held}
@@ -167,8 +167,8 @@ unfolding owns
 stale_here chip side q m back writes copy stands line is = taken chip side (made_stale side) q m writes
     (λ here. let at = eqb-true m q.line here in
     let gone : is_owned_copy (lookup chip side.cache m) ≡ false = ap (λ (l : ℕ). is_owned_copy (lookup chip side.cache l)) at ∙ copy in
-    let write : is_open_write m side.misses.demand ≡ false = not_open_other m side.misses.demand (λ demand stands_demand.
-    ap (λ (l : ℕ). demand.line == l) (at ∙ sym line) ∙ is.apart demand back stands_demand stands) in
+    let write : is_open_write m side.misses.demand ≡ false = not_open_other m side.misses.demand (λ demand demand_is.
+    ap (λ (l : ℕ). demand.line == l) (at ∙ sym line) ∙ is.apart demand back demand_is stands) in
     owns-stale chip side m ∙ grind (arith, gone, write))
     (λ other. let elsewhere : is_live_back m side.misses.back ≡ false = not_live_other m side.misses.back
     (λ b stands_b. other_line m q.line back b other line (same_Some back b (sym stands ∙ stands_b))) in
@@ -177,16 +177,16 @@ stale_here chip side q m back writes copy stands line is = taken chip side (made
 -- one more tile waits
 listed_here : (chip : Chip) (side : CacheSide) (q : Request) (m : ℕ) (demand : Demand) → is_getm q.kind ≡ false
     → side.misses.demand ≡ Some demand → ends_in_getm demand.list ≡ false
-    → OwnsAfterOther chip side q m (waits_behind q demand side)
-listed_here chip side q m demand reads stands goes_on = unchanged chip side (waits_behind q demand side) q m reads
+    → OwnsAfterOther chip side q m (deferred_to_demand q demand side)
+listed_here chip side q m demand reads stands goes_on = unchanged chip side (deferred_to_demand q demand side) q m reads
     (owns-demand chip side demand (record demand { list = demand.list ++ record { tile = q.source; kind = q.kind } ∷ [] }) m stands
     (open_listed m demand (record { tile = q.source; kind = q.kind }) reads goes_on))
 
 ended_here : (chip : Chip) (side : CacheSide) (q : Request) (m : ℕ) (demand : Demand) → is_getm q.kind ≡ true
     → MeetsOrdered chip side q.line demand
-    → OwnsAfterOther chip side q m (waits_behind q demand (line_gone chip q.line side))
+    → OwnsAfterOther chip side q m (deferred_to_demand q demand (line_gone chip q.line side))
 unfolding owns
-ended_here chip side q m demand writes meets = taken chip side (waits_behind q demand (line_gone chip q.line side)) q m writes
+ended_here chip side q m demand writes meets = taken chip side (deferred_to_demand q demand (line_gone chip q.line side)) q m writes
     (λ here. let at = eqb-true m q.line here in
     let back : is_live_back m side.misses.back ≡ false = ap (λ (l : ℕ). is_live_back l side.misses.back) at ∙ meets.back in
     let write = open_ended m demand (record { tile = q.source; kind = q.kind }) writes in

@@ -15,8 +15,8 @@ use Rattle.chip_model.specs.declared.owner.Owner.TheVariants.{Memory, Tile}
 use Rattle.chip_model.specs.Chip.{Chip}
 use Rattle.chip_model.specs.Cache.{Held, Cache, is_shared, lookup, installed, without_line}
 use Rattle.chip_model.specs.Misses.{Demand, WriteBack, is_getm, ends_in_getm, new_back, sent_demand, sent_by, marked_sent}
-use Rattle.chip_model.specs.Snoop.{CacheSide, with_demand, with_back, with_cache, line_gone, completed, words_here, ordered_with, own_get, own_put, own_request, snooped_with, snooped, holding, data_at, data_for, data_arrived}
-use Rattle.chip_model.specs.Node.{Node, Performed, accessed}
+use Rattle.chip_model.specs.Snoop.{CacheSide, with_demand, with_back, with_cache, line_gone, completed, words_here, ordered_with, own_get, own_put, own_request, snooped_with, after_snoop, holding, data_at, data_for, after_data}
+use Rattle.chip_model.specs.Node.{Node, Performed, node_after_access}
 use Rattle.chip_model.specs.Ownership.{is_tile, owner_after, is_owned_copy, is_live_back, is_open_write, owns}
 use Rattle.chip_model.specs.NodeShape.{SideFits}
 use Rattle.snoop_core.specs.Requests.{MeetsDemand, MeetsBack, MeetsOwn, OwnRequestFits}
@@ -34,7 +34,7 @@ not_equal a b is = grind (arith, nat_tests, is)
 back_elsewhere : (chip : Chip) (side : CacheSide) (demand : Demand) → side.misses.demand ≡ Some demand → SideFits chip side
     → is_live_back demand.line side.misses.back ≡ false
 back_elsewhere chip side demand stands is = not_live_other demand.line side.misses.back
-    (λ back stands_back. not_equal demand.line back.line (is.apart demand back stands stands_back))
+    (λ back write_back_is. not_equal demand.line back.line (is.apart demand back stands write_back_is))
 
 open_elsewhere : (side : CacheSide) (demand : Demand) (m : ℕ) → side.misses.demand ≡ Some demand → (m == demand.line) ≡ false
     → is_open_write m side.misses.demand ≡ false
@@ -168,8 +168,8 @@ put_by chip side back m true here stands is =
     let at : m ≡ back.line = eqb-true m back.line here in
     let copy : is_owned_copy (lookup chip side.cache m) ≡ false = ap (λ (l : ℕ). is_owned_copy (lookup chip side.cache l)) at
     ∙ ap is_owned_copy (is.back back stands) in
-    let write : is_open_write m side.misses.demand ≡ false = not_open_other m side.misses.demand (λ demand stands_demand.
-    ap (λ (l : ℕ). demand.line == l) at ∙ is.apart demand back stands_demand stands) in
+    let write : is_open_write m side.misses.demand ≡ false = not_open_other m side.misses.demand (λ demand demand_is.
+    ap (λ (l : ℕ). demand.line == l) at ∙ is.apart demand back demand_is stands) in
     grind (arith, copy, write)
 put_by chip side back m false other stands is =
     let elsewhere : is_live_back m side.misses.back ≡ false = not_live_other m side.misses.back (λ b stands_b.
@@ -246,11 +246,11 @@ by_own chip tile side place q m owner GetM kind meets own is law =
 by_own chip tile side place q m owner PutM kind meets own is law =
     by_put chip tile side (own_put chip side side.misses.back).side q m owner kind own law (owns-own_put chip side q m meets is)
 
-pub owns-snooped : (chip : Chip) (tile : ℕ) (side : CacheSide) (place : ℕ) (q : Request) → SideFits chip side → OwnRequestFits tile side q
+pub owns-after_snoop : (chip : Chip) (tile : ℕ) (side : CacheSide) (place : ℕ) (q : Request) → SideFits chip side → OwnRequestFits tile side q
     → (line : ℕ) (owner : Owner) → owns chip side line ≡ is_tile tile owner
-    → owns chip (snooped chip tile side place q).side line ≡ is_tile tile (owner_after line owner q)
-unfolding snooped
-owns-snooped chip tile side place q is own line owner law =
+    → owns chip (after_snoop chip tile side place q).side line ≡ is_tile tile (owner_after line owner q)
+unfolding after_snoop
+owns-after_snoop chip tile side place q is own line owner law =
     cond_both (q.source == tile) (own_request chip side place q.kind) (snooped_with chip q side (holding chip side q.line) q.kind)
     (λ outcome. owns chip outcome.side line ≡ is_tile tile (owner_after line owner q))
     (λ same. by_own chip tile side place q line owner q.kind refl (own (eqb-true q.source tile same)) same is law)
@@ -295,10 +295,10 @@ owns-data_for : (chip : Chip) (side : CacheSide) (words : List ℕ) (entry : Opt
 owns-data_for chip side words None m stands is = refl
 owns-data_for chip side words (Some demand) m stands is = owns-data_at chip side words demand demand.ordered m stands refl is
 
-pub owns-data_arrived : (chip : Chip) (side : CacheSide) (words : List ℕ) (line : ℕ) → SideFits chip side
-    → owns chip (data_arrived chip side words).side line ≡ owns chip side line
-unfolding data_arrived
-owns-data_arrived chip side words line is = owns-data_for chip side words side.misses.demand line refl is
+pub owns-after_data : (chip : Chip) (side : CacheSide) (words : List ℕ) (line : ℕ) → SideFits chip side
+    → owns chip (after_data chip side words).side line ≡ owns chip side line
+unfolding after_data
+owns-after_data chip side words line is = owns-data_for chip side words side.misses.demand line refl is
 
 -- ---- nor does an access
 owns-started : (chip : Chip) (side : CacheSide) (cache : Cache) (access : Pending) (m : ℕ) → side.misses.demand ≡ None
@@ -335,10 +335,10 @@ owns-put_back chip side held m none puts =
     let before : is_live_back m side.misses.back ≡ false = ap (is_live_back m) none in
     grind (arith, nat_tests, now, before, puts.there, puts.owned)
 
-pub owns-accessed : (access : Pending) (node : Node) (performed : Performed)
-    → accessed access node ≡ Some performed → SideFits node.chip node.side
+pub owns-node_after_access : (access : Pending) (node : Node) (performed : Performed)
+    → node_after_access access node ≡ Some performed → SideFits node.chip node.side
     → (line : ℕ) → owns performed.0.chip performed.0.side line ≡ owns node.chip node.side line
-owns-accessed access node performed done is line =
+owns-node_after_access access node performed done is line =
     let free = accessed_free access node performed done in
     access_forms access node performed (λ after. owns after.chip after.side line ≡ owns node.chip node.side line) is.cache
     (record {

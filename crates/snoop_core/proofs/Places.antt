@@ -8,8 +8,8 @@ use Rattle.mesh_gen.specs.declared.request.Request.{Request}
 use Rattle.chip_model.specs.declared.pending.Pending.{Pending}
 use Rattle.chip_model.specs.Chip.{Chip}
 use Rattle.chip_model.specs.Misses.{Demand, WriteBack, Misses, sent_demand, sent_by, marked_sent}
-use Rattle.chip_model.specs.Snoop.{CacheSide, ordered_with, own_get, own_put, own_request, snooped_with, snooped, holding, completed, data_at, data_for, data_arrived}
-use Rattle.chip_model.specs.Node.{Node, Performed, accessed}
+use Rattle.chip_model.specs.Snoop.{CacheSide, ordered_with, own_get, own_put, own_request, snooped_with, after_snoop, holding, completed, data_at, data_for, after_data}
+use Rattle.chip_model.specs.Node.{Node, Performed, node_after_access}
 use Rattle.chip_model.specs.NodeShape.{IsCache}
 use Rattle.snoop_core.specs.Nodes.{IsPlaced}
 use Rattle.snoop_core.proofs.SnoopSteps.{snoop_forms}
@@ -81,9 +81,9 @@ own_placed chip side place n PutM below placed = put_placed chip side n side.mis
 later : (misses : Misses) (n : ℕ) → IsPlaced misses n → IsPlaced misses (n + 1)
 later misses n placed = λ demand place is ordered. let below : place < n = placed demand place is ordered in omega arith
 
-pub IsPlaced-snooped : (chip : Chip) (tile : ℕ) (side : CacheSide) (place : ℕ) (q : Request) → IsPlaced side.misses place → IsPlaced (snooped chip tile side place q).side.misses (place + 1)
-unfolding snooped
-IsPlaced-snooped chip tile side place q placed =
+pub IsPlaced-after_snoop : (chip : Chip) (tile : ℕ) (side : CacheSide) (place : ℕ) (q : Request) → IsPlaced side.misses place → IsPlaced (after_snoop chip tile side place q).side.misses (place + 1)
+unfolding after_snoop
+IsPlaced-after_snoop chip tile side place q placed =
     cond_both (q.source == tile) (own_request chip side place q.kind) (snooped_with chip q side (holding chip side q.line) q.kind) (λ outcome. IsPlaced outcome.side.misses (place + 1))
     (λ same. own_placed chip side place (place + 1) q.kind (omega arith) (later side.misses place placed))
     (λ other. other_placed chip side q (place + 1) (later side.misses place placed))
@@ -98,14 +98,14 @@ for_placed : (chip : Chip) (side : CacheSide) (words : List ℕ) (n : ℕ) (entr
 for_placed chip side words n None is placed = placed
 for_placed chip side words n (Some demand) is placed = at_placed chip side words n demand demand.ordered is placed
 
-pub IsPlaced-data_arrived : (chip : Chip) (side : CacheSide) (words : List ℕ) (n : ℕ) → IsPlaced side.misses n → IsPlaced (data_arrived chip side words).side.misses n
-unfolding data_arrived
-IsPlaced-data_arrived chip side words n placed = for_placed chip side words n side.misses.demand refl placed
+pub IsPlaced-after_data : (chip : Chip) (side : CacheSide) (words : List ℕ) (n : ℕ) → IsPlaced side.misses n → IsPlaced (after_data chip side words).side.misses n
+unfolding after_data
+IsPlaced-after_data chip side words n placed = for_placed chip side words n side.misses.demand refl placed
 
 -- ---- an access, and a request that is sent
-pub IsPlaced-accessed : (access : Pending) (node : Node) (performed : Performed) (n : ℕ) → accessed access node ≡ Some performed → IsCache node.chip node.side.cache
+pub IsPlaced-node_after_access : (access : Pending) (node : Node) (performed : Performed) (n : ℕ) → node_after_access access node ≡ Some performed → IsCache node.chip node.side.cache
     → IsPlaced node.side.misses n → IsPlaced performed.0.side.misses n
-IsPlaced-accessed access node performed n done is placed =
+IsPlaced-node_after_access access node performed n done is placed =
     access_forms access node performed (λ after. IsPlaced after.side.misses n) is (record {
       hit = placed;
       wrote = λ held there modified words. placed;

@@ -82,8 +82,8 @@ SideFits-demand chip side demand new stands line fit is = record {
   cache = is.cache;
   demand = λ d now. let same : new ≡ d = cc in subst (λ (x : Demand). DemandFits chip side.cache x) same fit;
   back = is.back;
-  apart = λ d back now stands_back. let same : new ≡ d = cc in
-      let apart : (demand.line == back.line) ≡ false = is.apart demand back stands stands_back in
+  apart = λ d back now write_back_is. let same : new ≡ d = cc in
+      let apart : (demand.line == back.line) ≡ false = is.apart demand back stands write_back_is in
       subst (λ (x : Demand). (x.line == back.line) ≡ false) same (subst (λ (n : ℕ). (n == back.line) ≡ false) (sym line) apart);
 }
 
@@ -106,15 +106,15 @@ SideFits-installed chip side demand state words stands is =
     record {
       cache = IsCache-installed chip side.cache new fit is.cache;
       demand = λ d now. cc;
-      back = λ back stands_back. grind (
+      back = λ back write_back_is. grind (
         arith,
         nat_tests,
         lookup-installed chip side.cache new back.line fit,
-        is.back back stands_back,
+        is.back back write_back_is,
         is.apart demand back stands
-            stands_back,
+            write_back_is,
       );
-      apart = λ d back now stands_back. cc;
+      apart = λ d back now write_back_is. cc;
     }
 
 -- ---- the write-back becomes stale, or ends

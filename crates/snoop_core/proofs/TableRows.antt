@@ -18,7 +18,7 @@ use Rattle.miss_table.specs.Table.{Holds, IsLive, IsOrderedRead, TakesOneMore}
 use Rattle.miss_table.specs.Looks.{demand_look, back_look}
 use Rattle.snoop_core.specs.declared.snoop.Holding.{Holding}
 use Rattle.snoop_core.specs.declared.snoop.Holding.TheVariants.{OwnedCopy, LiveBack, OpenWrite, OpenRead, SharedCopy, Nothing}
-use Rattle.snoop_core.specs.ChipSides.{ChipSide, left_by, met_by}
+use Rattle.snoop_core.specs.ChipSides.{ChipSide, after_outcome, met_by}
 use Rattle.snoop_core.specs.Holdings.{told}
 use Rattle.snoop_core.proofs.CacheMaps.{fits_held}
 use Rattle.snoop_core.proofs.HoldingCases.{holding_forms, IsLiveBack, live_is, holding_open_write, holding_open_read}
@@ -214,7 +214,7 @@ row q site h k is kind =
 pub demand_left : (old : ChipSide) (chip : Chip) (cache now : Cache) (misses new : Misses) (demand : Demand) (change : Demand → Demand) (outcome : Outcome)
     → record { chip = chip; side = record { cache = cache; misses = misses } } ≡ old → old.side.misses.demand ≡ Some demand → new ≡ record misses { demand = option_map change misses.demand }
     → outcome.side ≡ record { cache = now; misses = record old.side.misses { demand = Some (change demand) } }
-    → record { chip = chip; side = record { cache = now; misses = new } } ≡ left_by outcome old
+    → record { chip = chip; side = record { cache = now; misses = new } } ≡ after_outcome outcome old
 demand_left old chip cache now misses new demand change outcome is stands changed leaves =
     let here : misses.demand ≡ Some demand = ap (λ (site : ChipSide). site.side.misses.demand) is ∙ stands in
     left old chip (record { cache = cache; misses = misses }) (record { cache = now; misses = new }) outcome is

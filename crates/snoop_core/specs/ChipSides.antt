@@ -16,8 +16,8 @@ abbrev pub opening_side : Chip → ChipSide
 opening_side chip = record { chip = chip; side = record { cache = empty_cache chip; misses = no_misses } }
 
 -- what a step leaves
-abbrev pub left_by : Outcome → ChipSide → ChipSide
-left_by outcome site = record site { side = outcome.side }
+abbrev pub after_outcome : Outcome → ChipSide → ChipSide
+after_outcome outcome site = record site { side = outcome.side }
 
 -- the request of another tile meets what is here for its line
 abbrev pub met_by : Request → ChipSide → Outcome

@@ -10,7 +10,7 @@ abbrev pub IsPlaced : Misses → ℕ → Type 0
 IsPlaced misses delivered = (demand : Demand) (place : ℕ) → misses.demand ≡ Some demand → demand.ordered ≡ Some place → place < delivered
 
 -- its tile is one of the chip, and its cache, demand, write-back and records fit each other
-pub record IsSound (node : Node) : Type 0 where
+pub record NodeIsSound (node : Node) : Type 0 where
   pub tile : node.tile < tile_count node.chip
   pub fits : NodeFits node
   pub placed : IsPlaced node.side.misses node.delivered

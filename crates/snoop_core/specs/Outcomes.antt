@@ -5,6 +5,6 @@ use Rattle.snoop_core.specs.declared.outcome.Outcome.{Outcome}
 use Rattle.snoop_core.specs.declared.outcome.Outcome.TheVariants.{Hit, Started}
 
 -- the access that was performed
-abbrev pub performed : Outcome → Option Done
-performed (Hit done) = Some done
-performed Started = None
+abbrev pub access_performed : Outcome → Option Done
+access_performed (Hit done) = Some done
+access_performed Started = None

@@ -49,6 +49,6 @@ pub record IsAnswerTo (demand : Demand) (msg : Msg) : Type 0 where
 abbrev pub DataFits : CacheSide → Msg → Type 0
 DataFits side msg = msg.kind ≡ Data → (demand : Demand) × (side.misses.demand ≡ Some demand) × IsAnswerTo demand msg
 
--- one more tile can wait behind the ordered store that another tile's request meets
+-- one more tile can wait for the ordered store that another tile's request meets
 abbrev pub ListHasRoom : ℕ → Chip → ℕ → CacheSide → Request → Type 0
 ListHasRoom places chip tile side q = q.source ≢ tile → q.kind ≢ PutM → (demand : Demand) → holding chip side q.line ≡ OpenWrite demand → length demand.list < places

@@ -4,7 +4,7 @@ ghost use Rattle.chip_model.specs.declared.pending.Pending.{Pending as Access};
 ghost use Rattle.chip_model.specs.Chip.{line_of};
 ghost use Rattle.chip_model.specs.Cache.{lookup};
 ghost use Rattle.chip_model.specs.Misses.{is_written_back};
-ghost use Rattle.chip_model.specs.Node.{accessed, missed, back_started, unless_written_back, store_to, demand_started};
+ghost use Rattle.chip_model.specs.Node.{node_after_access, missed, back_started, unless_written_back, store_to, demand_started};
 ghost use Rattle.line_cache.specs.Sets.{Fits, copy_of};
 ghost use Rattle.snoop_core.specs.Plans.{planned, StartsMiss, StartsBack};
 
@@ -34,7 +34,7 @@ impl Node {
     // What an access comes to.
     pub(crate) fn plan(&self, kind: AccessKind, line: u16) -> Plan
         ensures plan { (access : Access) → access.kind ≡ kind → line_of access.address ≡ line
-            → accessed access self.now ≡ planned result access self.now }
+            → node_after_access access self.now ≡ planned result access self.now }
         ensures free { result ≢ Plan.Refuse → IsNone self.now.side.misses.demand }
         ensures apart { StartsMiss result → is_written_back line self.now.side.misses.back ≡ false }
         ensures alone { StartsBack result → IsNone self.now.side.misses.back }

@@ -7,7 +7,7 @@ ghost use Rattle.chip_model.specs.Snoop.{written_by, done_by, old_word, kept_aft
 ghost use Rattle.chip_model.specs.NodeShape.{SideFits};
 ghost use Rattle.line_cache.specs.Sets.{HasSets, Fits, copy_of};
 ghost use Rattle.miss_table.specs.Table.{Holds, IsSentDemand, list_of};
-ghost use Rattle.snoop_core.specs.ChipSides.{left_by, completion};
+ghost use Rattle.snoop_core.specs.ChipSides.{after_outcome, completion};
 
 use crate::snooper::Snooper;
 use chip_model::{Done, Pending, State};
@@ -45,7 +45,7 @@ fn old_word(kind: AccessKind, word: u32) -> u32
 }
 
 /// What an access did at a time, by the words that were there.
-pub(crate) fn performed(access: Pending, time: u64, words: Words) -> Done
+pub(crate) fn access_performed(access: Pending, time: u64, words: Words) -> Done
     ensures { result ≡ done_by access time words }
 {
     let word = words[word_of(access.address)];
@@ -101,7 +101,7 @@ impl Snooper {
         requires place { place + 1 < 2 ^ 64 }
         requires room { length out.old + length (list_of self.old.side.misses.demand) ≤ QUEUE_PLACES }
         ensures side { (demand : Demand) → self.old.side.misses.demand ≡ Some demand → demand.line ≡ line → demand.pending ≡ pending
-            → self.new ≡ left_by (completed_store self.old.chip demand place words self.old.side) self.old }
+            → self.new ≡ after_outcome (completed_store self.old.chip demand place words self.old.side) self.old }
         ensures sent { (demand : Demand) → self.old.side.misses.demand ≡ Some demand
             → out.new ≡ out.old ++ data_to_all line (written_by pending words) demand.list }
         ensures done { result ≡ done_by pending (place + 1) words }
@@ -110,7 +110,7 @@ impl Snooper {
         let mut list = self.misses.finish_demand();
         keep_stored(&mut self.cache, line, after, &list);
         list.drain_with(line, after, out);
-        performed(pending, place + 1, words)
+        access_performed(pending, place + 1, words)
     }
 
     // The load takes its word.
@@ -126,12 +126,12 @@ impl Snooper {
         requires fits { Fits self.old.side.cache line }
         requires place { place + 1 < 2 ^ 64 }
         ensures side { (demand : Demand) → self.old.side.misses.demand ≡ Some demand → demand.line ≡ line → demand.once ≡ once
-            → self.new ≡ left_by (completed_load self.old.chip demand place words self.old.side) self.old }
+            → self.new ≡ after_outcome (completed_load self.old.chip demand place words self.old.side) self.old }
         ensures done { result ≡ done_by pending (place + 1) words }
     {
         let _ = self.misses.finish_demand();
         keep_loaded(&mut self.cache, line, words, once);
-        performed(pending, place + 1, words)
+        access_performed(pending, place + 1, words)
     }
 
     // The demand, which is ordered at this place, completes with these words.
@@ -140,7 +140,7 @@ impl Snooper {
         requires side { SideFits self.old.chip self.old.side }
         requires place { place + 1 < 2 ^ 64 }
         requires room { length (out.old ++ (completion place words self.old).sends) ≤ QUEUE_PLACES }
-        ensures side { self.new ≡ left_by (completion place words self.old) self.old }
+        ensures side { self.new ≡ after_outcome (completion place words self.old) self.old }
         ensures sent { out.new ≡ out.old ++ (completion place words self.old).sends }
         ensures done { result ≡ (completion place words self.old).done }
     {

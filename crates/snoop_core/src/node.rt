@@ -4,18 +4,18 @@ ghost use Rattle.chip_model.specs.Cache.{lookup};
 ghost use Rattle.chip_model.specs.Misses.{wanted};
 ghost use Rattle.chip_model.specs.Snoop.{done_by};
 ghost use Rattle.chip_model.specs.Records.{LineRecord};
-ghost use Rattle.chip_model.specs.Node.{opening_node, request_delivered, message_arrived, request_sent, message_sent, has_entry, waits_for_any, accessed};
+ghost use Rattle.chip_model.specs.Node.{opening_node, node_after_request, node_after_message, after_request_sent, after_message_sent, has_entry, waits_for_any, node_after_access};
 ghost use Rattle.chip_model.specs.Ownership.{owns, is_tile, owner_after};
 ghost use Rattle.line_cache.specs.Sets.{copy_of};
 ghost use Rattle.mem_ctrl.specs.Waits.{TakesRequest};
 ghost use Rattle.mem_ctrl.specs.Owners.{record_of, owner_in, next_owner, told_of};
 ghost use Rattle.snoop_core.specs.Requests.{OwnRequestFits, DataFits, ListHasRoom};
-ghost use Rattle.snoop_core.specs.Nodes.{IsSound};
-ghost use Rattle.snoop_core.specs.Outcomes.{performed};
+ghost use Rattle.snoop_core.specs.Nodes.{NodeIsSound};
+ghost use Rattle.snoop_core.specs.Outcomes.{access_performed};
 
 use crate::Outcome;
 use crate::access::Plan;
-use crate::completion::{performed as performed_at, written};
+use crate::completion::{access_performed as performed_at, written};
 use crate::snooper::Snooper;
 use chip_model::{Done, Owner, Pending, State};
 use forward_list::{LIST_PLACES, OutQueue, QUEUE_PLACES};
@@ -38,7 +38,7 @@ pub struct Node {
 
 impl Model for Node {
     ghost use Rattle.chip_model.specs.Node.{Node as NodeState};
-    ghost use Rattle.snoop_core.specs.Nodes.{IsSound};
+    ghost use Rattle.snoop_core.specs.Nodes.{NodeIsSound};
 
     ghost Value = { NodeState };
 
@@ -51,7 +51,7 @@ impl Model for Node {
       delivered = node.delivered;
     } };
 
-    ghost invariant = { λ node. IsSound (record {
+    ghost invariant = { λ node. NodeIsSound (record {
       chip = node.snooper.chip;
       tile = node.tile;
       side = node.snooper.side;
@@ -87,7 +87,7 @@ impl Node {
     /// Whether an access is possible now. What a write would write does not matter.
     pub fn can_access(&self, kind: AccessKind, address: u32, _value: u32) -> bool
         requires { address < 4 * self.now.chip.lines }
-        ensures { (value : ℕ) → result ≡ is_some (accessed (record { kind = kind; address = address; value = value }) self.now) }
+        ensures { (value : ℕ) → result ≡ is_some (node_after_access (record { kind = kind; address = address; value = value }) self.now) }
     {
         match self.plan(kind, self.snooper.line_of(address)) {
             Plan::Refuse => false,
@@ -109,8 +109,8 @@ impl Node {
     ) -> Result<Outcome, NotEnabled>
         requires { address < 4 * self.old.chip.lines }
         ensures ok { IfOk result (λ outcome.
-            accessed (record { kind = kind; address = address; value = value }) self.old ≡ Some (self.new, performed outcome)) }
-        ensures err { OnErr result (accessed (record { kind = kind; address = address; value = value }) self.old ≡ None) }
+            node_after_access (record { kind = kind; address = address; value = value }) self.old ≡ Some (self.new, access_performed outcome)) }
+        ensures err { OnErr result (node_after_access (record { kind = kind; address = address; value = value }) self.old ≡ None) }
         ensures kept { OnErr result (self.new ≡ self.old) }
         ensures owners { (line : ℕ) → owns self.new.chip self.new.side line ≡ owns self.old.chip self.old.side line }
     {
@@ -160,7 +160,7 @@ impl Node {
     /// The request that was wanted is sent.
     pub fn mark_sent(&mut self)
         requires { IsSome (wanted self.old.side.misses) }
-        ensures sent { self.new ≡ request_sent self.old }
+        ensures sent { self.new ≡ after_request_sent self.old }
         ensures owners { (line : ℕ) → owns self.new.chip self.new.side line ≡ owns self.old.chip self.old.side line }
     {
         self.snooper.mark_sent();
@@ -175,9 +175,9 @@ impl Node {
         requires own { OwnRequestFits self.old.tile self.old.side q }
         requires list { ListHasRoom LIST_PLACES self.old.chip self.old.tile self.old.side q }
         requires waiting { (r : LineRecord) → record_of self.old.records q.line ≡ Some r → TakesRequest q LIST_PLACES r }
-        requires room { length (request_delivered q self.old).0.out ≤ QUEUE_PLACES }
-        ensures node { self.new ≡ (request_delivered q self.old).0 }
-        ensures done { result ≡ (request_delivered q self.old).1 }
+        requires room { length (node_after_request q self.old).0.out ≤ QUEUE_PLACES }
+        ensures node { self.new ≡ (node_after_request q self.old).0 }
+        ensures done { result ≡ (node_after_request q self.old).1 }
         ensures owners { (line : ℕ) (owner : Owner) → owns self.old.chip self.old.side line ≡ is_tile self.old.tile owner
             → owns self.new.chip self.new.side line ≡ is_tile self.new.tile (owner_after line owner q) }
         ensures records { (line : ℕ) → owner_in self.new.records line ≡ next_owner line q (owner_in self.old.records line) }
@@ -196,9 +196,9 @@ impl Node {
         requires line { msg.line < self.old.chip.lines }
         requires awaited { DataFits self.old.side msg }
         requires home { msg.kind ≡ MsgKind.Back → home self.old.chip msg.line ≡ self.old.tile }
-        requires room { length (message_arrived msg self.old).0.out ≤ QUEUE_PLACES }
-        ensures node { self.new ≡ (message_arrived msg self.old).0 }
-        ensures done { result ≡ (message_arrived msg self.old).1 }
+        requires room { length (node_after_message msg self.old).0.out ≤ QUEUE_PLACES }
+        ensures node { self.new ≡ (node_after_message msg self.old).0 }
+        ensures done { result ≡ (node_after_message msg self.old).1 }
         ensures owners { (line : ℕ) → owns self.new.chip self.new.side line ≡ owns self.old.chip self.old.side line }
         ensures records { (line : ℕ) → owner_in self.new.records line ≡ owner_in self.old.records line }
     {
@@ -221,7 +221,7 @@ impl Node {
     /// The message that was next is sent.
     pub fn drop_out(&mut self)
         requires { IsSome (slice_get self.old.out 0) }
-        ensures { self.new ≡ message_sent self.old }
+        ensures { self.new ≡ after_message_sent self.old }
     {
         self.out.pop();
     }
@@ -243,7 +243,7 @@ impl Node {
     /// Whether the node waits for nothing and has nothing to send.
     pub fn idle(&self) -> bool
         ensures idle { IsTrue result ↔ ((waits_for_any self.now ≡ false) × (self.now.out ≡ [])) }
-        ensures sound { IsSound self.now }
+        ensures sound { NodeIsSound self.now }
     {
         !self.snooper.has_demand() && !self.snooper.has_back() && self.out.front().is_none()
     }

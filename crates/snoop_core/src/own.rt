@@ -2,9 +2,9 @@
 ghost use Rattle.std.specs.Prelude.{◌≡◌, ◌+◌, ◌^◌, ◌<◌, ◌≤◌, ◌++◌, ℕ, length, IsTrue};
 ghost use Rattle.chip_model.specs.Cache.{lookup};
 ghost use Rattle.chip_model.specs.Misses.{Demand, WriteBack};
-ghost use Rattle.chip_model.specs.Snoop.{owned_words, snooped, data_arrived};
+ghost use Rattle.chip_model.specs.Snoop.{owned_words, after_snoop, after_data};
 ghost use Rattle.chip_model.specs.NodeShape.{SideFits};
-ghost use Rattle.snoop_core.specs.ChipSides.{left_by, own_get_at, own_put_of, words_for};
+ghost use Rattle.snoop_core.specs.ChipSides.{after_outcome, own_get_at, own_put_of, words_for};
 ghost use Rattle.snoop_core.specs.Requests.{MeetsDemand, MeetsBack, OwnRequestFits, ListHasRoom};
 
 use crate::snooper::Snooper;
@@ -24,7 +24,7 @@ impl Snooper {
         }
     }
 
-    // The words that are here for the demand: those that came early, and else, for a write, those of a copy in O.
+    // The words that are here for the demand: early data, and else, for a write, those of a copy in O.
     fn words_here(&self) -> Option<Words>
         ensures { result ≡ words_for self.now.side.misses.demand self.now }
     {
@@ -46,7 +46,7 @@ impl Snooper {
         requires side { SideFits self.old.chip self.old.side }
         requires place { place + 1 < 2 ^ 64 }
         requires room { length (out.old ++ (own_get_at place self.old).sends) ≤ QUEUE_PLACES }
-        ensures side { self.new ≡ left_by (own_get_at place self.old) self.old }
+        ensures side { self.new ≡ after_outcome (own_get_at place self.old) self.old }
         ensures sent { out.new ≡ out.old ++ (own_get_at place self.old).sends }
         ensures done { result ≡ (own_get_at place self.old).done }
     {
@@ -64,7 +64,7 @@ impl Snooper {
         requires own { MeetsBack self.old.side q }
         requires line { q.line < self.old.chip.lines }
         requires room { length (out.old ++ (own_put_of self.old).sends) ≤ QUEUE_PLACES }
-        ensures side { self.new ≡ left_by (own_put_of self.old) self.old }
+        ensures side { self.new ≡ after_outcome (own_put_of self.old) self.old }
         ensures sent { out.new ≡ out.old ++ (own_put_of self.old).sends }
     {
         if let Some(back) = self.back() {
@@ -94,10 +94,10 @@ impl Snooper {
         requires line { q.line < self.old.chip.lines }
         requires list { ListHasRoom LIST_PLACES self.old.chip tile self.old.side q }
         requires place { place + 1 < 2 ^ 64 }
-        requires room { length (out.old ++ (snooped self.old.chip tile self.old.side place q).sends) ≤ QUEUE_PLACES }
-        ensures side { self.new ≡ left_by (snooped self.old.chip tile self.old.side place q) self.old }
-        ensures sent { out.new ≡ out.old ++ (snooped self.old.chip tile self.old.side place q).sends }
-        ensures done { result ≡ (snooped self.old.chip tile self.old.side place q).done }
+        requires room { length (out.old ++ (after_snoop self.old.chip tile self.old.side place q).sends) ≤ QUEUE_PLACES }
+        ensures side { self.new ≡ after_outcome (after_snoop self.old.chip tile self.old.side place q) self.old }
+        ensures sent { out.new ≡ out.old ++ (after_snoop self.old.chip tile self.old.side place q).sends }
+        ensures done { result ≡ (after_snoop self.old.chip tile self.old.side place q).done }
     {
         if q.source != tile {
             self.meet(q, out);
@@ -119,10 +119,10 @@ impl Snooper {
         requires side { SideFits self.old.chip self.old.side }
         requires place { (demand : Demand) (place : ℕ) → self.old.side.misses.demand ≡ Some demand → demand.ordered ≡ Some place
             → place + 1 < 2 ^ 64 }
-        requires room { length (out.old ++ (data_arrived self.old.chip self.old.side words).sends) ≤ QUEUE_PLACES }
-        ensures side { self.new ≡ left_by (data_arrived self.old.chip self.old.side words) self.old }
-        ensures sent { out.new ≡ out.old ++ (data_arrived self.old.chip self.old.side words).sends }
-        ensures done { result ≡ (data_arrived self.old.chip self.old.side words).done }
+        requires room { length (out.old ++ (after_data self.old.chip self.old.side words).sends) ≤ QUEUE_PLACES }
+        ensures side { self.new ≡ after_outcome (after_data self.old.chip self.old.side words) self.old }
+        ensures sent { out.new ≡ out.old ++ (after_data self.old.chip self.old.side words).sends }
+        ensures done { result ≡ (after_data self.old.chip self.old.side words).done }
     {
         match self.demand() {
             Some(demand) => match demand.ordered {

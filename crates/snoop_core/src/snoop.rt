@@ -4,7 +4,7 @@ ghost use Rattle.chip_model.specs.Misses.{Demand, Misses, ends_in_getm};
 ghost use Rattle.chip_model.specs.Snoop.{holding_demand, holding_unowned, live_for, ordered_for, holding, data_to, OpenWrite};
 ghost use Rattle.chip_model.specs.NodeShape.{SideFits};
 ghost use Rattle.miss_table.specs.Looks.{demand_look, back_look};
-ghost use Rattle.snoop_core.specs.ChipSides.{left_by, met_by};
+ghost use Rattle.snoop_core.specs.ChipSides.{after_outcome, met_by};
 ghost use Rattle.snoop_core.specs.Holdings.{told};
 
 use crate::snooper::Snooper;
@@ -20,7 +20,7 @@ pub(crate) enum Holding {
     OwnedCopy(Words),
     /// A write-back under which it still owns the line.
     LiveBack(Words),
-    /// An ordered demand to write, behind which more tiles may wait.
+    /// An ordered demand to write, after which more tiles may wait.
     OpenWrite,
     /// An ordered demand to read.
     OpenRead,
@@ -53,7 +53,7 @@ fn without_back(demand: Option<DemandLook>, line: u16, shared: bool) -> Holding
     }
 }
 
-// What an ordered demand is for other tiles. Where a GetM waits behind it the line goes on from that tile.
+// What an ordered demand is for other tiles. Where a GetM waits after it the line goes on from that tile.
 fn of_demand(kind: Kind, ends: bool) -> Holding
     ensures { (demand : Demand) → demand.kind ≡ kind → ends_in_getm demand.list ≡ ends
         → result ≡ told (holding_demand demand) }
@@ -112,7 +112,7 @@ impl Snooper {
         requires room { length (out.old ++ (met_by q self.old).sends) ≤ QUEUE_PLACES }
         requires list { q.kind ≢ Kind.PutM → (demand : Demand)
             → holding self.old.chip self.old.side q.line ≡ OpenWrite demand → length demand.list < LIST_PLACES }
-        ensures side { self.new ≡ left_by (met_by q self.old) self.old }
+        ensures side { self.new ≡ after_outcome (met_by q self.old) self.old }
         ensures sent { out.new ≡ out.old ++ (met_by q self.old).sends }
     {
         match (self.holding(q.line), q.kind) {

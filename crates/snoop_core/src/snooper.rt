@@ -3,7 +3,7 @@ ghost use Rattle.chip_model.specs.Chip.{chip_of_mesh, line_of};
 ghost use Rattle.chip_model.specs.Cache.{lookup, installed};
 ghost use Rattle.chip_model.specs.Misses.{is_written_back, new_demand, new_back, request_for, wanted, marked_sent};
 ghost use Rattle.chip_model.specs.Snoop.{with_cache, with_demand, with_back, line_gone};
-ghost use Rattle.line_cache.specs.Sets.{Fits, MakesRoom, copy_of};
+ghost use Rattle.line_cache.specs.Sets.{Fits, IsVictim, copy_of};
 ghost use Rattle.miss_table.specs.Looks.{demand_look, back_look};
 ghost use Rattle.snoop_core.specs.ChipSides.{opening_side};
 
@@ -87,7 +87,7 @@ impl Snooper {
 
     // What has to leave the cache before the line can come in.
     pub(crate) fn victim(&self, line: u16) -> Victim
-        ensures { MakesRoom self.now.chip self.now.side.cache line result }
+        ensures { IsVictim self.now.chip self.now.side.cache line result }
     {
         self.cache.victim(line)
     }

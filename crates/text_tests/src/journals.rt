@@ -17,7 +17,7 @@ const GOOD: [(&str, usize); 14] = [
         4,
     ),
     ("e datahop 0 n 0\ne dataeject 63 e 15\n", 2),
-    // lines that are passed over, whatever stands behind their first word
+    // lines that are passed over, whatever stands after their first word
     (
         "requests\nq\nseen\ns\naccesses\na\nmemory\nm\nwindows\nhops\njournal\nended\n",
         0,
@@ -50,7 +50,7 @@ const BAD: [(&str, u64); 45] = [
     ("ended\r", 1),
     ("\u{feff}e tick\n", 1),
     ("\u{e9}\n", 1),
-    // counts of words and of blanks
+    // counts of words and of spaces
     ("e\n", 1),
     ("e \n", 1),
     ("e  tick\n", 1),

@@ -54,6 +54,6 @@ held_within [] slot held = cc
 held_within (packet ∷ slots) zero held = omega arith
 held_within (packet ∷ slots) (suc slot) held = let below = held_within slots slot held in omega arith
 
--- ---- the same of what a call left behind
+-- ---- the same of what a call left after
 pub written_only : {P : Type 0} (bank new : Channels P) (port slot : ℕ) (packet : Option P) → new ≡ with_packet bank port slot packet → slot < length (slots_at bank port) → ChangesOnly bank new port slot packet
 written_only bank new port slot packet is inside = rw is (ChangesOnly-with_packet bank port slot packet inside)

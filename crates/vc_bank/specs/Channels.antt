@@ -45,7 +45,7 @@ abbrev pub is_there_and_free : {P : Type 0} → Option (Option P) → Bool
 is_there_and_free None = false
 is_there_and_free (Some packet) = is_none packet
 
--- whether the slot behind the normal ones is there, and is empty
+-- whether the slot after the normal ones is there, and is empty
 abbrev pub reserved_free : {P : Type 0} → Channels P → ℕ → Bool
 reserved_free bank port = is_there_and_free (slice_get (slots_at bank port) (normal_slots bank))
 

@@ -7,7 +7,7 @@ use Rattle.std.proofs.lemmas.List.Elements.{All-nil, All-push, All-replicate, Al
 use Rattle.mesh_gen.specs.Grid.{Grid, tiles, diameter}
 use Rattle.order_tracker.specs.Tracker.{IsWindow}
 use Rattle.chip_model.specs.Windows.{window_closed}
-use Rattle.window_core.specs.Windows.{WindowsState, opening, AreSound}
+use Rattle.window_core.specs.Windows.{WindowsState, opening_state, AreSound}
 
 -- a tile posts before the first tick
 pub AreSound-post : (s : WindowsState) (t : ℕ) → s.windows.phase ≡ 0 → t < tiles s.grid → AreSound s
@@ -76,7 +76,7 @@ AreSound-take s t count some sound = record {
 }
 
 -- before any tick
-pub AreSound-open : (g : Grid) (ticks room : ℕ) → 0 < tiles g → tiles g ≤ 64 → diameter g ≤ ticks → 0 < ticks → AreSound (opening g ticks room)
+pub AreSound-open : (g : Grid) (ticks room : ℕ) → 0 < tiles g → tiles g ≤ 64 → diameter g ≤ ticks → 0 < ticks → AreSound (opening_state g ticks room)
 AreSound-open g ticks room some few wide long = record {
   some = some;
   few = few;

@@ -7,7 +7,7 @@ use Rattle.std.proofs.lemmas.Option.{slice_get_within, get_or_from_slice_get}
 use Rattle.std.proofs.lemmas.List.Elements.{All-get_or}
 use Rattle.mesh_gen.specs.TileSet.{has_tile}
 use Rattle.chip_model.specs.Partial.{when, ◌>>=◌}
-use Rattle.chip_model.specs.Windows.{Windows, may_post, posted, window_closed, ticked, closed_by_tick, next_vector, taken_by}
+use Rattle.chip_model.specs.Windows.{Windows, may_post, after_post, window_closed, after_tick, closed_by_tick, next_vector, after_take}
 
 -- ---- a step with a guard
 
@@ -25,49 +25,49 @@ none_from_test (Some x) fails = cc
 
 -- ---- a post
 
-pub is_some-posted : (w : Windows) (t : ℕ) → is_some (posted w t) ≡ may_post w t
-unfolding posted
-is_some-posted w t = is_some-when (may_post w t) (record w { posts = bit_or (2 ^ t) w.posts })
+pub is_some-after_post : (w : Windows) (t : ℕ) → is_some (after_post w t) ≡ may_post w t
+unfolding after_post
+is_some-after_post w t = is_some-when (may_post w t) (record w { posts = bit_or (2 ^ t) w.posts })
 
-pub posted-some : (w : Windows) (t : ℕ) → is_some (posted w t) ≡ true → posted w t ≡ Some (record w { posts = bit_or (2 ^ t) w.posts })
-unfolding posted
-posted-some w t so = when_holds (may_post w t) (record w { posts = bit_or (2 ^ t) w.posts }) so
+pub after_post-some : (w : Windows) (t : ℕ) → is_some (after_post w t) ≡ true → after_post w t ≡ Some (record w { posts = bit_or (2 ^ t) w.posts })
+unfolding after_post
+after_post-some w t so = when_holds (may_post w t) (record w { posts = bit_or (2 ^ t) w.posts }) so
 
 first_of : (a b : Bool) (phase : ℕ) → ((phase == 0) && a && b) ≡ true → phase ≡ 0
 first_of a b phase so = grind (arith, nat_tests)
 
-pub posted-first : (w : Windows) (t : ℕ) → is_some (posted w t) ≡ true → w.phase ≡ 0
-posted-first w t so = first_of (nat_lt t (length w.taken)) (not (has_tile w.posts t)) w.phase (sym (is_some-posted w t) ∙ so)
+pub after_post-first : (w : Windows) (t : ℕ) → is_some (after_post w t) ≡ true → w.phase ≡ 0
+after_post-first w t so = first_of (nat_lt t (length w.taken)) (not (has_tile w.posts t)) w.phase (sym (is_some-after_post w t) ∙ so)
 
 at_first : (a b : Bool) (phase : ℕ) → phase ≡ 0 → ((phase == 0) && a && b) ≡ (a && b)
 at_first a b phase first = grind (arith, nat_tests)
 
-pub is_some-posted-first : (w : Windows) (t : ℕ) → w.phase ≡ 0 → is_some (posted w t) ≡ (nat_lt t (length w.taken) && not (has_tile w.posts t))
-is_some-posted-first w t first = is_some-posted w t ∙ at_first (nat_lt t (length w.taken)) (not (has_tile w.posts t)) w.phase first
+pub is_some-after_post-first : (w : Windows) (t : ℕ) → w.phase ≡ 0 → is_some (after_post w t) ≡ (nat_lt t (length w.taken) && not (has_tile w.posts t))
+is_some-after_post-first w t first = is_some-after_post w t ∙ at_first (nat_lt t (length w.taken)) (not (has_tile w.posts t)) w.phase first
 
 later : (a b : Bool) (phase : ℕ) → phase ≢ 0 → ((phase == 0) && a && b) ≡ false
 later a b phase begun = grind (arith, nat_tests)
 
-pub is_some-posted-begun : (w : Windows) (t : ℕ) → w.phase ≢ 0 → is_some (posted w t) ≡ false
-is_some-posted-begun w t begun = is_some-posted w t ∙ later (nat_lt t (length w.taken)) (not (has_tile w.posts t)) w.phase begun
+pub is_some-after_post-begun : (w : Windows) (t : ℕ) → w.phase ≢ 0 → is_some (after_post w t) ≡ false
+is_some-after_post-begun w t begun = is_some-after_post w t ∙ later (nat_lt t (length w.taken)) (not (has_tile w.posts t)) w.phase begun
 
 -- ---- a tick
 
-pub is_some-ticked : (ticks : ℕ) (w : Windows) → is_some (ticked ticks w) ≡ nat_lt 0 w.posts
-unfolding ticked
-is_some-ticked ticks w = is_some-when (nat_lt 0 w.posts) _
+pub is_some-after_tick : (ticks : ℕ) (w : Windows) → is_some (after_tick ticks w) ≡ nat_lt 0 w.posts
+unfolding after_tick
+is_some-after_tick ticks w = is_some-when (nat_lt 0 w.posts) _
 
 is_some_posts : (n : ℕ) → nat_lt 0 n ≡ not (nat_eq n 0)
 is_some_posts n = grind (arith, nat_tests)
 
-pub test_posts : (ticks : ℕ) (w : Windows) → not (nat_eq w.posts 0) ≡ is_some (ticked ticks w)
-test_posts ticks w = sym (is_some-ticked ticks w ∙ is_some_posts w.posts)
+pub test_posts : (ticks : ℕ) (w : Windows) → not (nat_eq w.posts 0) ≡ is_some (after_tick ticks w)
+test_posts ticks w = sym (is_some-after_tick ticks w ∙ is_some_posts w.posts)
 
 positive : (n : ℕ) → nat_lt 0 n ≡ true → 0 < n
 positive n so = grind (arith, nat_tests)
 
-pub ticked-posted : (ticks : ℕ) (w : Windows) → is_some (ticked ticks w) ≡ true → 0 < w.posts
-ticked-posted ticks w so = positive w.posts (sym (is_some-ticked ticks w) ∙ so)
+pub after_tick-after_post : (ticks : ℕ) (w : Windows) → is_some (after_tick ticks w) ≡ true → 0 < w.posts
+after_tick-after_post ticks w so = positive w.posts (sym (is_some-after_tick ticks w) ∙ so)
 
 some_posted : (n : ℕ) → 0 < n → nat_lt 0 n ≡ true
 some_posted n some = grind (arith, nat_tests)
@@ -78,13 +78,13 @@ not_last a b below = grind (arith, nat_tests)
 last : (a b : ℕ) → a ≡ b → (a == b) ≡ true
 last a b same = grind (arith, nat_tests)
 
-pub ticked-merge : (ticks : ℕ) (w : Windows) → 0 < w.posts → w.phase + 1 < ticks → ticked ticks w ≡ Some (record w { phase = w.phase + 1 })
-unfolding ticked
-ticked-merge ticks w posted more = rw (some_posted w.posts posted, not_last (w.phase + 1) ticks more) refl
+pub after_tick-merge : (ticks : ℕ) (w : Windows) → 0 < w.posts → w.phase + 1 < ticks → after_tick ticks w ≡ Some (record w { phase = w.phase + 1 })
+unfolding after_tick
+after_tick-merge ticks w after_post more = rw (some_posted w.posts after_post, not_last (w.phase + 1) ticks more) refl
 
-pub ticked-close : (ticks : ℕ) (w : Windows) → 0 < w.posts → w.phase + 1 ≡ ticks → ticked ticks w ≡ Some (window_closed w)
-unfolding ticked
-ticked-close ticks w posted is = rw (some_posted w.posts posted, last (w.phase + 1) ticks is) refl
+pub after_tick-close : (ticks : ℕ) (w : Windows) → 0 < w.posts → w.phase + 1 ≡ ticks → after_tick ticks w ≡ Some (window_closed w)
+unfolding after_tick
+after_tick-close ticks w after_post is = rw (some_posted w.posts after_post, last (w.phase + 1) ticks is) refl
 
 pub closed_by_tick-merge : (ticks : ℕ) (w : Windows) → w.phase + 1 < ticks → closed_by_tick ticks w ≡ None
 unfolding closed_by_tick
@@ -124,17 +124,17 @@ pub next_vector-some : (w : Windows) (t vector : ℕ) → IsNext w.taken w.close
 unfolding next_vector
 next_vector-some w t vector next = rw (next.counted, next.there) refl
 
-pub taken_by-some : (w : Windows) (t vector : ℕ) → (next : IsNext w.taken w.closed t vector) → taken_by w t ≡ Some (record w { taken = set w.taken t (next.at + 1) })
-unfolding taken_by
-taken_by-some w t vector next = rw (next.counted, next.there) refl
+pub after_take-some : (w : Windows) (t vector : ℕ) → (next : IsNext w.taken w.closed t vector) → after_take w t ≡ Some (record w { taken = set w.taken t (next.at + 1) })
+unfolding after_take
+after_take-some w t vector next = rw (next.counted, next.there) refl
 
 none_from_next : (closed : List ℕ) (o : Option ℕ) (f : ℕ → ℕ → Windows) → (o >>= slice_get closed) ≡ None → (o >>= (λ count. slice_get closed count >>= (λ vector. Some (f count vector)))) ≡ None
 none_from_next closed None f e = refl
 none_from_next closed (Some count) f e = rw e refl
 
-pub taken_by-none : (w : Windows) (t : ℕ) → (slice_get w.taken t >>= slice_get w.closed) ≡ None → taken_by w t ≡ None
-unfolding taken_by
-taken_by-none w t none = none_from_next w.closed (slice_get w.taken t) (λ count vector. record w { taken = set w.taken t (count + 1) }) none
+pub after_take-none : (w : Windows) (t : ℕ) → (slice_get w.taken t >>= slice_get w.closed) ≡ None → after_take w t ≡ None
+unfolding after_take
+after_take-none w t none = none_from_next w.closed (slice_get w.taken t) (λ count vector. record w { taken = set w.taken t (count + 1) }) none
 
 pub there_too : {X Y : Type 0} (o : Option X) (y : X → Y) → is_some (o >>= (λ x. Some (y x))) ≡ is_some o
 there_too None y = refl
@@ -144,9 +144,9 @@ test_from_next : (closed : List ℕ) (o : Option ℕ) (f : ℕ → ℕ → Windo
 test_from_next closed None f = refl
 test_from_next closed (Some count) f = there_too (slice_get closed count) (f count)
 
-pub is_some-taken_by : (w : Windows) (t : ℕ) → is_some (taken_by w t) ≡ is_some (slice_get w.taken t >>= slice_get w.closed)
-unfolding taken_by
-is_some-taken_by w t = test_from_next w.closed (slice_get w.taken t) (λ count vector. record w { taken = set w.taken t (count + 1) })
+pub is_some-after_take : (w : Windows) (t : ℕ) → is_some (after_take w t) ≡ is_some (slice_get w.taken t >>= slice_get w.closed)
+unfolding after_take
+is_some-after_take w t = test_from_next w.closed (slice_get w.taken t) (λ count vector. record w { taken = set w.taken t (count + 1) })
 
 pub not_first : (n : ℕ) → n ≢ 0 → nat_eq n 0 ≡ false
 not_first n some = grind (arith, nat_tests)

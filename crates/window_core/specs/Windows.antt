@@ -20,8 +20,8 @@ abbrev pub state_of : LatchState → ℕ → Windows → ℕ → WindowsState
 state_of latches ticks windows room = record { grid = latches.grid; ticks = ticks; windows = windows; room = room }
 
 -- before any tick
-abbrev pub opening : Grid → ℕ → ℕ → WindowsState
-opening g ticks room = record { grid = g; ticks = ticks; windows = opening_windows (tiles g); room = room }
+abbrev pub opening_state : Grid → ℕ → ℕ → WindowsState
+opening_state g ticks room = record { grid = g; ticks = ticks; windows = opening_windows (tiles g); room = room }
 
 -- what no call changes
 pub record SameSizes (old new : WindowsState) : Type 0 where

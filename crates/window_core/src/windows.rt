@@ -3,8 +3,8 @@ ghost use Rattle.std.specs.Bool.{OnTrue};
 ghost use Rattle.mesh_gen.specs.Grid.{tiles};
 ghost use Rattle.mesh_gen.specs.Mesh.{grid};
 ghost use Rattle.order_tracker.specs.Tracker.{IsWindow};
-ghost use Rattle.chip_model.specs.Windows.{posted, ticked, closed_by_tick, window_closed, next_vector, taken_by};
-ghost use Rattle.window_core.specs.Windows.{opening, SameSizes, AreSound};
+ghost use Rattle.chip_model.specs.Windows.{after_post, after_tick, closed_by_tick, window_closed, next_vector, after_take};
+ghost use Rattle.window_core.specs.Windows.{opening_state, SameSizes, AreSound};
 
 use crate::tile_set::lacks;
 use mesh_gen::{Mesh, NoMemory, NotEnabled, NotReady, with_tile};
@@ -41,7 +41,7 @@ impl Model for Windows {
 impl Windows {
     /// Windows before any tick, with room for so many closed ones.
     pub fn open(alloc: Global, mesh: &Mesh, room: u64) -> Result<Windows, NoMemory>
-        ensures { IfOk result (λ windows. windows ≡ opening (grid mesh.now) mesh.now.window room) }
+        ensures { IfOk result (λ windows. windows ≡ opening_state (grid mesh.now) mesh.now.window room) }
     {
         let tiles = usize::from(mesh.tiles());
         Ok(Windows {
@@ -88,7 +88,7 @@ impl Windows {
 
     /// Whether the tile may post now.
     pub fn can_post(&self, t: u8) -> bool
-        ensures posts { result ≡ is_some (posted self.now.windows t) }
+        ensures posts { result ≡ is_some (after_post self.now.windows t) }
         ensures tile { OnTrue result (t < tiles self.now.grid) }
     {
         self.phase == 0 && lacks(self.posts, self.taken.len(), t)
@@ -96,8 +96,8 @@ impl Windows {
 
     /// The tile posts in the open window. This is refused once the window has ticked, and to a tile that posted in it.
     pub fn post(&mut self, t: u8) -> Result<(), NotEnabled>
-        ensures ok { OnOk result (posted self.old.windows t ≡ Some self.new.windows) }
-        ensures err { OnErr result (posted self.old.windows t ≡ None) }
+        ensures ok { OnOk result (after_post self.old.windows t ≡ Some self.new.windows) }
+        ensures err { OnErr result (after_post self.old.windows t ≡ None) }
         ensures kept { OnErr result (self.new ≡ self.old) }
         ensures sizes { SameSizes self.old self.new }
     {
@@ -111,7 +111,7 @@ impl Windows {
 
     /// Whether a tick may pass now.
     pub fn can_tick(&self) -> bool
-        ensures { result ≡ is_some (ticked self.now.ticks self.now.windows) }
+        ensures { result ≡ is_some (after_tick self.now.ticks self.now.windows) }
     {
         self.posts != 0
     }
@@ -120,9 +120,9 @@ impl Windows {
     /// vector. A window in which no tile posted does not tick.
     pub fn tick(&mut self) -> Result<Option<u64>, NotEnabled>
         requires { length self.old.windows.closed < self.old.room }
-        ensures ok { OnOk result (ticked self.old.ticks self.old.windows ≡ Some self.new.windows) }
+        ensures ok { OnOk result (after_tick self.old.ticks self.old.windows ≡ Some self.new.windows) }
         ensures vector { IfOk result (λ vector. vector ≡ closed_by_tick self.old.ticks self.old.windows) }
-        ensures err { OnErr result (ticked self.old.ticks self.old.windows ≡ None) }
+        ensures err { OnErr result (after_tick self.old.ticks self.old.windows ≡ None) }
         ensures kept { OnErr result (self.new ≡ self.old) }
         ensures sizes { SameSizes self.old self.new }
     {
@@ -166,17 +166,17 @@ impl Windows {
 
     /// Whether the tile has a closed window to take.
     pub fn can_take(&self, t: u8) -> bool
-        ensures { result ≡ is_some (taken_by self.now.windows t) }
+        ensures { result ≡ is_some (after_take self.now.windows t) }
     {
         next_of(&self.closed, &self.taken, t).is_some()
     }
 
     /// The tile takes the vector of the next closed window. This is refused where it has taken all of them.
     pub fn take(&mut self, t: u8) -> Result<u64, NotReady>
-        ensures ok { OnOk result (taken_by self.old.windows t ≡ Some self.new.windows) }
+        ensures ok { OnOk result (after_take self.old.windows t ≡ Some self.new.windows) }
         ensures vector { IfOk result (λ vector. next_vector self.old.windows t ≡ Some vector) }
         ensures tiles { IfOk result (IsWindow (tiles self.old.grid)) }
-        ensures err { OnErr result (taken_by self.old.windows t ≡ None) }
+        ensures err { OnErr result (after_take self.old.windows t ≡ None) }
         ensures kept { OnErr result (self.new ≡ self.old) }
         ensures sizes { SameSizes self.old self.new }
     {

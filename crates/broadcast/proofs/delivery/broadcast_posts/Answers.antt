@@ -4,7 +4,7 @@ use Rattle.mesh_gen.specs.TileSet.{set_of}
 use Rattle.chip_model.specs.Chip.{chip_of_mesh, tile_count}
 use Rattle.chip_model.specs.Delivery.{window_events}
 use Rattle.order_tracker.specs.Order.{expansion}
-use Rattle.net_iface.specs.OrderedNet.{opening}
+use Rattle.net_iface.specs.OrderedNet.{opening_state}
 use Rattle.broadcast.specs.Broadcasts.{WindowPasses}
 use Rattle.broadcast.specs.Delivered.{HasBroadcast}
 use Rattle.broadcast.proofs.Delivering.{none_yet, one_more_window}
@@ -15,7 +15,7 @@ loop-window-init c =
     let chip = chip_of_mesh c.args.document.now.mesh in
     let posts = c.args.document.now.posts in
     let room : length c.windows-windows.result.now * c.from.result ≡ length posts * tile_count chip = rw (c.windows-windows.ensures.windows, c.from.ensures, c.tiles-tiles.ensures.tiles) refl in
-    subst (λ s. HasBroadcast chip posts (length posts * tile_count chip) 0 s) (sym (c.in_ok-net.ensures ∙ ap (opening chip) room)) (none_yet chip posts (length posts * tile_count chip))
+    subst (λ s. HasBroadcast chip posts (length posts * tile_count chip) 0 s) (sym (c.in_ok-net.ensures ∙ ap (opening_state chip) room)) (none_yet chip posts (length posts * tile_count chip))
 
 pub loop-window-preserved : goal.loop-window-preserved
 loop-window-preserved c =

@@ -1,6 +1,6 @@
 use Rattle.std.proofs.Common.{◌≡◌, ◌<◌, ◌≤◌, length, drop, ◌∙◌, arith}
 use Rattle.commands.specs.Entries.{entry_text}
-use Rattle.commands.proofs.Digits.{decimal_short, digits_are, blank_before}
+use Rattle.commands.proofs.Digits.{decimal_short, digits_are, space_before}
 use Rattle.commands.proofs.line.write_number.Goals as goal
 use Rattle.commands.proofs.line.write_number.Goals.{then-begun, else-begun}
 
@@ -17,7 +17,7 @@ returns-clause-ok g c =
     let within : c.write_digits-digits.result ≤ 4 = omega arith in
     let count : length c.write_digits-digits.new.buf ≡ 4 = omega arith in
     let text_is : drop c.if-begun.start c.write_digits-digits.new.buf ≡ entry_text c.args.begun c.args.number = elim c.if-begun.branch [
-      | then-begun w ↦ rw (w.start-is, w.if-begun.true) (blank_before c.args.number c.write_digits-digits.result c.write_digits-digits.new.buf some within count written c.write_digits-digits.ensures.before)
+      | then-begun w ↦ rw (w.start-is, w.if-begun.true) (space_before c.args.number c.write_digits-digits.result c.write_digits-digits.new.buf some within count written c.write_digits-digits.ensures.before)
       | else-begun w ↦ rw (w.start-is, w.if-begun.false) (digits_are c.args.number c.write_digits-digits.result c.write_digits-digits.new.buf written)
     ] in
     rw (c.split_at.ensures.back ∙ text_is) at c.write_piece.ensures.ok
@@ -29,7 +29,7 @@ returns-clause-err g c =
     let within : c.write_digits-digits.result ≤ 4 = omega arith in
     let count : length c.write_digits-digits.new.buf ≡ 4 = omega arith in
     let text_is : drop c.if-begun.start c.write_digits-digits.new.buf ≡ entry_text c.args.begun c.args.number = elim c.if-begun.branch [
-      | then-begun w ↦ rw (w.start-is, w.if-begun.true) (blank_before c.args.number c.write_digits-digits.result c.write_digits-digits.new.buf some within count written c.write_digits-digits.ensures.before)
+      | then-begun w ↦ rw (w.start-is, w.if-begun.true) (space_before c.args.number c.write_digits-digits.result c.write_digits-digits.new.buf some within count written c.write_digits-digits.ensures.before)
       | else-begun w ↦ rw (w.start-is, w.if-begun.false) (digits_are c.args.number c.write_digits-digits.result c.write_digits-digits.new.buf written)
     ] in
     rw (c.split_at.ensures.back ∙ text_is) at c.write_piece.ensures.err

@@ -5,12 +5,12 @@ use Rattle.mesh_gen.specs.TileSet.{set_of}
 use Rattle.mesh_gen.proofs.TileSets.{set_of-positive, set_of-lt}
 use Rattle.order_tracker.specs.Order.{expansion, order_from}
 use Rattle.order_tracker.specs.Tracker.{TrackerState, left_of}
-use Rattle.order_tracker.proofs.Turns.{length-expansion-le}
+use Rattle.order_tracker.proofs.Priorities.{length-expansion-le}
 use Rattle.commands.specs.Entries.{entries_text, rest_text}
-use Rattle.commands.specs.Line.{line_of}
+use Rattle.commands.specs.Line.{numbers_line}
 use Rattle.std.proofs.lemmas.Result.{on_ok_weaker, on_err_weaker}
 use Rattle.outside_io.proofs.Writes.{Writes, Writes-nothing, Writes-more, Writes-all, Writes-cut, on_error}
-use Rattle.commands.proofs.Lines.{line_of-rest}
+use Rattle.commands.proofs.Lines.{numbers_line-rest}
 use Rattle.commands.proofs.Windows.{left_is_window, step_text, tiles_of_window, some_tile}
 use Rattle.commands.proofs.order.write_line.Goals as goal
 
@@ -18,7 +18,7 @@ pub loop-window-init : goal.loop-window-init
 loop-window-init g c =
     let numbers = order_from c.args.tracker.now.tiles 0 (map set_of c.args.posts.now) in
     record {
-      written = rw (line_of-rest numbers) (Writes-nothing (g.K.Sink.held c.args.sink.now) (rest_text false numbers));
+      written = rw (numbers_line-rest numbers) (Writes-nothing (g.K.Sink.held c.args.sink.now) (rest_text false numbers));
       grid = refl;
       tiles = refl;
       windows = c.requires.new.0;
@@ -53,7 +53,7 @@ returns-in_err-begun-clause-err g c =
     let entries : left_of c.push.new.self ≡ expansion c.args.tracker.now.tiles c.loop-window.window-index (set_of c.window-item.result)
     = left_is_window c.loop-window.tracker c.push.new.self c.merge.result so_far.windows c.push.ensures.pushed ∙ rw (so_far.tiles, so_far.number, c.merge.ensures.merged ∙ ap set_of c.as_slice.ensures) refl in
     let step = step_text c.loop-window.begun c.args.tracker.now.tiles c.loop-window.window-index c.args.posts.now c.window-item.result (left_of c.push.new.self) c.loop-window-test.true c.window-item.is entries in
-    let whole = line_of (order_from c.args.tracker.now.tiles 0 (map set_of c.args.posts.now)) in
+    let whole = numbers_line (order_from c.args.tracker.now.tiles 0 (map set_of c.args.posts.now)) in
     let written = subst (λ text. Writes (g.K.Sink.held c.args.sink.now) (g.K.Sink.held c.loop-window.sink) whole text) step so_far.written in
     on_error c.from_residual.result _ (Writes-cut _ _ _ whole (entries_text c.loop-window.begun (left_of c.push.new.self)) _ written c.in_err-begun.ensures.err)
 
@@ -65,7 +65,7 @@ loop-window-preserved g c =
     let entries : left_of c.push.new.self ≡ expansion c.args.tracker.now.tiles c.loop-window.window-index (set_of c.window-item.result)
     = left_is_window c.loop-window.tracker c.push.new.self c.merge.result so_far.windows c.push.ensures.pushed ∙ rw (so_far.tiles, so_far.number, c.merge.ensures.merged ∙ ap set_of c.as_slice.ensures) refl in
     let step = step_text c.loop-window.begun c.args.tracker.now.tiles c.loop-window.window-index c.args.posts.now c.window-item.result (left_of c.push.new.self) c.loop-window-test.true c.window-item.is entries in
-    let whole = line_of (order_from c.args.tracker.now.tiles 0 (map set_of c.args.posts.now)) in
+    let whole = numbers_line (order_from c.args.tracker.now.tiles 0 (map set_of c.args.posts.now)) in
     let written = subst (λ text. Writes (g.K.Sink.held c.args.sink.now) (g.K.Sink.held c.loop-window.sink) whole text) step so_far.written in
     let tiles = tiles_of_window c.args.tracker.now.tiles c.loop-window.window-index c.args.posts.now c.window-item.result c.requires.posts c.loop-window-test.true c.window-item.is in
     let some = some_tile c.args.tracker.now.tiles c.window-item.result tiles in
@@ -85,14 +85,14 @@ loop-window-preserved g c =
 
 pub returns-clause-ok : goal.returns-clause-ok
 returns-clause-ok g c =
-    let whole = line_of (order_from c.args.tracker.now.tiles 0 (map set_of c.args.posts.now)) in
+    let whole = numbers_line (order_from c.args.tracker.now.tiles 0 (map set_of c.args.posts.now)) in
     let none = drop_all c.loop-window.window-index c.args.posts.now (omega arith) in
     let written = subst (λ ps. Writes (g.K.Sink.held c.args.sink.now) (g.K.Sink.held c.loop-window.sink) whole (rest_text c.loop-window.begun (order_from c.args.tracker.now.tiles c.loop-window.window-index (map set_of ps)))) none c.loop-window.invariant.written in
     on_ok_weaker c.write_piece.result (λ appended. Writes-all _ _ whole (Writes-more _ _ _ whole (10 ∷ []) [] written appended)) c.write_piece.ensures.ok
 
 pub returns-clause-err : goal.returns-clause-err
 returns-clause-err g c =
-    let whole = line_of (order_from c.args.tracker.now.tiles 0 (map set_of c.args.posts.now)) in
+    let whole = numbers_line (order_from c.args.tracker.now.tiles 0 (map set_of c.args.posts.now)) in
     let none = drop_all c.loop-window.window-index c.args.posts.now (omega arith) in
     let written = subst (λ ps. Writes (g.K.Sink.held c.args.sink.now) (g.K.Sink.held c.loop-window.sink) whole (rest_text c.loop-window.begun (order_from c.args.tracker.now.tiles c.loop-window.window-index (map set_of ps)))) none c.loop-window.invariant.written in
     on_err_weaker c.write_piece.result (λ cut. Writes-cut _ _ _ whole (10 ∷ []) [] written cut) c.write_piece.ensures.err

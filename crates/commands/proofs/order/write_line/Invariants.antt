@@ -5,13 +5,13 @@ use Rattle.mesh_gen.specs.Limits.{most_tiles}
 use Rattle.mesh_gen.specs.TileSet.{set_of}
 use Rattle.order_tracker.specs.Order.{order_from}
 use Rattle.commands.specs.Entries.{rest_text}
-use Rattle.commands.specs.Line.{line_of}
+use Rattle.commands.specs.Line.{numbers_line}
 use Rattle.outside_io.proofs.Writes.{Writes}
 use Rattle.commands.proofs.order.write_line.Given as goal
 
 abbrev pub invariant-loop-window : goal.invariant-loop-window
 invariant-loop-window g l = record {
-  written : Writes (g.K.Sink.held l.initial.sink) (g.K.Sink.held l.sink) (line_of (order_from l.fn.tracker.tiles 0 (map set_of l.posts)))
+  written : Writes (g.K.Sink.held l.initial.sink) (g.K.Sink.held l.sink) (numbers_line (order_from l.fn.tracker.tiles 0 (map set_of l.posts)))
       (rest_text l.begun (order_from l.fn.tracker.tiles l.window-index (map set_of (drop l.window-index l.posts))));
   grid : l.latches.grid ≡ l.fn.latches.grid;
   tiles : l.tracker.tiles ≡ l.fn.tracker.tiles;

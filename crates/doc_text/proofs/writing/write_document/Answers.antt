@@ -6,7 +6,7 @@ use Rattle.doc_text.specs.Canonical.{posts_text, mesh_text, shown_words, memory_
 use Rattle.outside_io.proofs.Writes.{Writes, Writes-first, Writes-more, Writes-last, Writes-cut, Writes-cut_last, AppendsPart-first, on_error}
 use Rattle.doc_text.proofs.writing.write_document.Goals as goal
 
--- what is left behind the mesh, and behind the posts
+-- what is left after the mesh, and after the posts
 abbrev cores : Doc → List ℕ
 cores doc = cores_text 0 doc.programs
 

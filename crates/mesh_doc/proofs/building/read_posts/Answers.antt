@@ -9,5 +9,5 @@ use Rattle.mesh_doc.proofs.building.read_posts.Goals as goal
 pub returns-in-None : goal.returns-in-None
 returns-in-None c =
     let top = table_view c.args.top.now in
-    let missing : windows c.args.count (value Posts top) ≡ Some [] = rw (value-default Posts top (rw c.in-None.is at c.written.ensures)) (windows-default c.args.count) in
+    let missing : windows c.args.count (value Posts top) ≡ Some [] = rw (value-default Posts top (rw c.in-None.is at c.written_value.ensures)) (windows-default c.args.count) in
     cc

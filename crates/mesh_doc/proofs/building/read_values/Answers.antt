@@ -5,7 +5,7 @@ use Rattle.toml.specs.View.{table_view}
 use Rattle.doc_text.specs.declared.key.Key.TheVariants.{Posts, Controllers, Memory}
 use Rattle.mesh_doc.specs.Tables.{value}
 use Rattle.mesh_doc.specs.Values.{repeated}
-use Rattle.mesh_doc.specs.Faults.{mesh_table, tile_count, out_of_range, controllers_twice, cores_twice, bad_programs}
+use Rattle.mesh_doc.specs.Faults.{mesh_table, tiles_described, out_of_range, controllers_twice, cores_twice, bad_programs}
 use Rattle.mesh_doc.specs.Reading.{below}
 use Rattle.mesh_doc.specs.Said.{Says, count_of}
 use Rattle.mesh_doc.proofs.Placing.{length-below}
@@ -45,7 +45,7 @@ returns-in_err-programs-clause-faults c =
     let ranges : out_of_range top ≡ [] = c.in_ok-said.ensures.faults in
     let none : controllers_twice said.controllers.items ≡ [] = rw c.deref.ensures.value at c.in_ok-check_controllers.ensures in
     let single : cores_twice said.core_tiles.items ≡ [] = rw c.deref-2.ensures.value at c.in_ok-check_core_tiles.ensures in
-    let count : c.tiles.result ≡ tile_count top = c.tiles.ensures.tiles ∙ sym (count_said top said says) in
+    let count : c.tiles.result ≡ tiles_described top = c.tiles.ensures.tiles ∙ sym (count_said top said says) in
     let same = err_from_is_err_and c.from_residual-in_err-programs.result c.from_residual-in_err-programs.ensures.1 in
     rw (same.1, same.2) (in_programs top said c.in_err-programs.field-0.0 says ranges none single (rw (count, c.requires) at c.in_err-programs.ensures.faults))
 
@@ -87,7 +87,7 @@ returns-clause-faults c =
     let ranges : out_of_range top ≡ [] = c.in_ok-said.ensures.faults in
     let none : controllers_twice said.controllers.items ≡ [] = rw c.deref.ensures.value at c.in_ok-check_controllers.ensures in
     let single : cores_twice said.core_tiles.items ≡ [] = rw c.deref-2.ensures.value at c.in_ok-check_core_tiles.ensures in
-    let count : c.tiles.result ≡ tile_count top = c.tiles.ensures.tiles ∙ sym (count_said top said says) in
+    let count : c.tiles.result ≡ tiles_described top = c.tiles.ensures.tiles ∙ sym (count_said top said says) in
     let right : bad_programs top ≡ [] = rw (count, c.requires) at c.in_ok-programs.ensures.faults in
     ended _ c.document_of.result (no_fault top said says ranges none single right) c.document_of.ensures.memory
 
@@ -96,5 +96,5 @@ returns-clause-document c =
     let top = table_view c.args.top.now in
     let said = c.in_ok-said.said in
     let says : Says top said = c.in_ok-said.ensures.said in
-    let count : c.tiles.result ≡ tile_count top = c.tiles.ensures.tiles ∙ sym (count_said top said says) in
+    let count : c.tiles.result ≡ tiles_described top = c.tiles.ensures.tiles ∙ sym (count_said top said says) in
     read_is top said c.in_ok-programs.programs.items c.document_of.result says (rw (count, c.requires) at c.in_ok-programs.ensures.programs) c.document_of.ensures.document

@@ -13,8 +13,8 @@ returns-clause-ends c = λ g dest r. (route_ends g r dest, route_at_end g r dest
 pub returns-clause-goes_on : goal.returns-clause-goes_on
 returns-clause-goes_on c = λ g dest r some inside reached other. route_goes_on g r dest some inside reached other
 
-pub returns-clause-may_stand : goal.returns-clause-may_stand
-returns-clause-may_stand c = travels_stands
+pub returns-clause-is_route_channel : goal.returns-clause-is_route_channel
+returns-clause-is_route_channel c = travels_stands
 
 pub returns-clause-stands_on : goal.returns-clause-stands_on
 returns-clause-stands_on c = λ g dest r n some next. hop_stands g r dest n some next

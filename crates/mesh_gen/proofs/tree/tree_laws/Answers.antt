@@ -1,7 +1,7 @@
 use Rattle.std.proofs.Common.{refl}
 use Rattle.mesh_gen.specs.Grid.{distance}
 use Rattle.mesh_gen.proofs.TreeEdges.{entered, source_free, parents_lead}
-use Rattle.mesh_gen.proofs.Serves.{ways_to-source, ways_to-edge, covers_leaves}
+use Rattle.mesh_gen.proofs.Serves.{outputs_to-source, outputs_to-edge, covers_leaves}
 use Rattle.mesh_gen.proofs.Led.{covers_from_leads, leads_from_covers}
 use Rattle.mesh_gen.proofs.Ancestors.{ancestor_from_leads, leads_from_ancestor}
 use Rattle.mesh_gen.proofs.tree.tree_laws.Goals as goal
@@ -22,10 +22,10 @@ pub returns-clause-covers : goal.returns-clause-covers
 returns-clause-covers c = λ g s r v p some inside reached. (leads_from_covers g s r v p some inside reached, covers_from_leads g s r v p some)
 
 pub returns-clause-whole : goal.returns-clause-whole
-returns-clause-whole c = ways_to-source
+returns-clause-whole c = outputs_to-source
 
 pub returns-clause-carried : goal.returns-clause-carried
-returns-clause-carried c = ways_to-edge
+returns-clause-carried c = outputs_to-edge
 
 pub returns-clause-leaves : goal.returns-clause-leaves
 returns-clause-leaves c = covers_leaves

@@ -4,15 +4,15 @@ use Rattle.mesh_gen.specs.declared.msg.Msg.{Msg}
 use Rattle.chip_model.specs.Chip.{set_number}
 use Rattle.chip_model.specs.Cache.{lookup, has_room, installed, without_line, without_shared, lowest_for}
 use Rattle.chip_model.specs.Misses.{wanted, marked_sent}
-use Rattle.chip_model.specs.Snoop.{holding, snooped, data_arrived, data_to}
+use Rattle.chip_model.specs.Snoop.{holding, after_snoop, after_data, data_to}
 use Rattle.chip_model.specs.Records.{answered, back_arrived}
-use Rattle.chip_model.specs.Node.{Node, accessed, request_delivered, message_arrived, request_sent, message_sent}
+use Rattle.chip_model.specs.Node.{Node, node_after_access, node_after_request, node_after_message, after_request_sent, after_message_sent}
 use Rattle.chip_model.specs.NodeRows.{request_for_line, storing}
 use Rattle.node_tests.proofs.Trials.{may_take, may_come, after_request, after_message}
 use Rattle.node_tests.proofs.nodes.modified.Goals as goal
 
 pub on_request-requires : goal.on_request-requires
-unfolding set_number lookup has_room installed without_line without_shared lowest_for wanted marked_sent holding snooped data_arrived answered back_arrived accessed request_delivered message_arrived request_sent message_sent
+unfolding set_number lookup has_room installed without_line without_shared lowest_for wanted marked_sent holding after_snoop after_data answered back_arrived node_after_access node_after_request node_after_message after_request_sent after_message_sent
 on_request-requires c =
     let n0 : Node = storing in
     let e0 : c.in_ok-node.node ≡ n0 = c.in_ok-node.ensures in
@@ -21,24 +21,24 @@ on_request-requires c =
     record { source = may.source; line = may.line; count = may.count; own = may.own; list = may.list; waiting = may.waiting; room = may.room }
 
 pub on_data-requires : goal.on_data-requires
-unfolding set_number lookup has_room installed without_line without_shared lowest_for wanted marked_sent holding snooped data_arrived answered back_arrived accessed request_delivered message_arrived request_sent message_sent
+unfolding set_number lookup has_room installed without_line without_shared lowest_for wanted marked_sent holding after_snoop after_data answered back_arrived node_after_access node_after_request node_after_message after_request_sent after_message_sent
 on_data-requires c =
     let n0 : Node = storing in
     let e0 : c.in_ok-node.node ≡ n0 = c.in_ok-node.ensures in
-    let n1 : Node = (request_delivered (request_for_line 0 0 0 GetM) n0).0 in
+    let n1 : Node = (node_after_request (request_for_line 0 0 0 GetM) n0).0 in
     let e1 : c.on_request.new.self ≡ n1 = after_request c.request_of.result (request_for_line 0 0 0 GetM) c.in_ok-node.node n0 c.on_request.new.self c.request_of.ensures e0 c.on_request.ensures.node in
     let msg : Msg = (data_to 0 0 (1 ∷ 2 ∷ 3 ∷ 4 ∷ [])) in
     let may = may_come c.words_for.result msg c.on_request.new.self n1 c.words_for.ensures e1 (record { line = refl; awaited = refl; home = refl; room = refl }) in
     record { line = may.line; awaited = may.awaited; home = may.home; room = may.room }
 
 pub returns : goal.returns
-unfolding set_number lookup has_room installed without_line without_shared lowest_for wanted marked_sent holding snooped data_arrived answered back_arrived accessed request_delivered message_arrived request_sent message_sent
+unfolding set_number lookup has_room installed without_line without_shared lowest_for wanted marked_sent holding after_snoop after_data answered back_arrived node_after_access node_after_request node_after_message after_request_sent after_message_sent
 returns c =
     let n0 : Node = storing in
     let e0 : c.in_ok-node.node ≡ n0 = c.in_ok-node.ensures in
-    let n1 : Node = (request_delivered (request_for_line 0 0 0 GetM) n0).0 in
+    let n1 : Node = (node_after_request (request_for_line 0 0 0 GetM) n0).0 in
     let e1 : c.on_request.new.self ≡ n1 = after_request c.request_of.result (request_for_line 0 0 0 GetM) c.in_ok-node.node n0 c.on_request.new.self c.request_of.ensures e0 c.on_request.ensures.node in
     let m2 : Msg = (data_to 0 0 (1 ∷ 2 ∷ 3 ∷ 4 ∷ [])) in
-    let n2 : Node = (message_arrived m2 n1).0 in
+    let n2 : Node = (node_after_message m2 n1).0 in
     let e2 : c.on_data.new.self ≡ n2 = after_message c.words_for.result m2 c.on_request.new.self n1 c.on_data.new.self c.words_for.ensures e1 c.on_data.ensures.node in
     e2

@@ -3,15 +3,15 @@ use Rattle.mesh_gen.specs.declared.kind.Kind.TheVariants.{PutM}
 use Rattle.chip_model.specs.Chip.{set_number}
 use Rattle.chip_model.specs.Cache.{lookup, has_room, installed, without_line, without_shared, lowest_for}
 use Rattle.chip_model.specs.Misses.{wanted, marked_sent}
-use Rattle.chip_model.specs.Snoop.{holding, snooped, data_arrived}
+use Rattle.chip_model.specs.Snoop.{holding, after_snoop, after_data}
 use Rattle.chip_model.specs.Records.{answered, back_arrived}
-use Rattle.chip_model.specs.Node.{Node, accessed, request_delivered, message_arrived, request_sent, message_sent}
+use Rattle.chip_model.specs.Node.{Node, node_after_access, node_after_request, node_after_message, after_request_sent, after_message_sent}
 use Rattle.chip_model.specs.NodeRows.{request_for_line, missing_beside}
 use Rattle.node_tests.proofs.Trials.{may_take, after_request}
 use Rattle.node_tests.proofs.nodes.written_back.Goals as goal
 
 pub on_request-requires : goal.on_request-requires
-unfolding set_number lookup has_room installed without_line without_shared lowest_for wanted marked_sent holding snooped data_arrived answered back_arrived accessed request_delivered message_arrived request_sent message_sent
+unfolding set_number lookup has_room installed without_line without_shared lowest_for wanted marked_sent holding after_snoop after_data answered back_arrived node_after_access node_after_request node_after_message after_request_sent after_message_sent
 on_request-requires c =
     let n0 : Node = missing_beside in
     let e0 : c.in_ok-node.node ≡ n0 = c.in_ok-node.ensures in
@@ -20,10 +20,10 @@ on_request-requires c =
     record { source = may.source; line = may.line; count = may.count; own = may.own; list = may.list; waiting = may.waiting; room = may.room }
 
 pub returns : goal.returns
-unfolding set_number lookup has_room installed without_line without_shared lowest_for wanted marked_sent holding snooped data_arrived answered back_arrived accessed request_delivered message_arrived request_sent message_sent
+unfolding set_number lookup has_room installed without_line without_shared lowest_for wanted marked_sent holding after_snoop after_data answered back_arrived node_after_access node_after_request node_after_message after_request_sent after_message_sent
 returns c =
     let n0 : Node = missing_beside in
     let e0 : c.in_ok-node.node ≡ n0 = c.in_ok-node.ensures in
-    let n1 : Node = (request_delivered (request_for_line 0 0 1 PutM) n0).0 in
+    let n1 : Node = (node_after_request (request_for_line 0 0 1 PutM) n0).0 in
     let e1 : c.on_request.new.self ≡ n1 = after_request c.request_of.result (request_for_line 0 0 1 PutM) c.in_ok-node.node n0 c.on_request.new.self c.request_of.ensures e0 c.on_request.ensures.node in
     e1

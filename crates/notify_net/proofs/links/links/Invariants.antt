@@ -2,8 +2,8 @@
 use Rattle.std.proofs.Common.{◌≡◌, ℕ, ◌<◌, length, Some}
 use Rattle.std.specs.Prelude.{slice_get}
 use Rattle.mesh_gen.specs.Mesh.{grid}
-use Rattle.notify_net.specs.Links.{sides_of}
+use Rattle.notify_net.specs.Links.{neighbours_of}
 use Rattle.notify_net.proofs.links.links.Given as goal
 
 abbrev pub invariant-loop-t : goal.invariant-loop-t
-invariant-loop-t l = (length l.links.items ≡ l.t) × ((u : ℕ) → u < l.t → slice_get l.links.items u ≡ Some (sides_of (grid l.mesh) u))
+invariant-loop-t l = (length l.links.items ≡ l.t) × ((u : ℕ) → u < l.t → slice_get l.links.items u ≡ Some (neighbours_of (grid l.mesh) u))

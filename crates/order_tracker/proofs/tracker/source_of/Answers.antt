@@ -1,4 +1,4 @@
-use Rattle.order_tracker.proofs.Turns.{has_tile-below}
+use Rattle.order_tracker.proofs.Priorities.{has_tile-below}
 use Rattle.order_tracker.proofs.tracker.source_of.Goals as goal
 
 pub returns-clause-tile : goal.returns-clause-tile

@@ -1,5 +1,5 @@
 use Rattle.std.proofs.Common.{◌+◌, length, drop, codes, refl, arith}
-use Rattle.report_text.specs.Lines.{line_of}
+use Rattle.report_text.specs.Lines.{joined_words}
 use Rattle.report_text.specs.Report.{access_part, access_rows, count_row}
 use Rattle.report_text.specs.Rows.{access_words}
 use Rattle.report_text.proofs.Pieces.{Writes-nothing, Writes-line, Writes-cut, on_error}
@@ -27,7 +27,7 @@ returns-in_err-write-2-clause-err g c =
     let rest = access_rows (drop (c.loop-access.access-index + 1) c.args.accesses.now) in
     let step = access_rows-drop c.args.accesses.now c.loop-access.access-index c.loop-access-test.true in
     on_error c.from_residual-in_err-write-2.result _
-    (Writes-cut _ _ _ lines left (line_of (access_words (access_at c.args.accesses.now c.loop-access.access-index))) rest _ c.access_line.ensures.text step c.loop-access.invariant.written c.in_err-write-2.ensures.err)
+    (Writes-cut _ _ _ lines left (joined_words (access_words (access_at c.args.accesses.now c.loop-access.access-index))) rest _ c.access_line.ensures.text step c.loop-access.invariant.written c.in_err-write-2.ensures.err)
 
 pub loop-access-preserved : goal.loop-access-preserved
 loop-access-preserved g c =
@@ -36,6 +36,6 @@ loop-access-preserved g c =
     let rest = access_rows (drop (c.loop-access.access-index + 1) c.args.accesses.now) in
     let step = access_rows-drop c.args.accesses.now c.loop-access.access-index c.loop-access-test.true in
     record {
-      written = Writes-line _ _ _ lines left (line_of (access_words (access_at c.args.accesses.now c.loop-access.access-index))) rest _ c.access_line.ensures.text step c.loop-access.invariant.written c.in_ok-write-2.ensures.ok;
+      written = Writes-line _ _ _ lines left (joined_words (access_words (access_at c.args.accesses.now c.loop-access.access-index))) rest _ c.access_line.ensures.text step c.loop-access.invariant.written c.in_ok-write-2.ensures.ok;
       count = omega arith;
     }

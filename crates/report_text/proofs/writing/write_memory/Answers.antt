@@ -1,5 +1,5 @@
 use Rattle.std.proofs.Common.{◌+◌, length, drop, codes, arith}
-use Rattle.report_text.specs.Lines.{line_of}
+use Rattle.report_text.specs.Lines.{joined_words}
 use Rattle.report_text.specs.Report.{memory_part, memory_rows, count_row}
 use Rattle.report_text.specs.Rows.{memory_words}
 use Rattle.report_text.proofs.Pieces.{Writes-nothing, Writes-line, Writes-cut, on_error}
@@ -32,7 +32,7 @@ returns-in_err-write-2-clause-err g c =
     let line = c.loop-line.line in
     let step = memory_rows-drop chunks line c.loop-line-test.true in
     on_error c.from_residual-in_err-write-2.result _
-    (Writes-cut _ _ _ lines (memory_rows line (drop line chunks)) (line_of (memory_words line (line_at chunks line))) (memory_rows (line + 1) (drop (line + 1) chunks)) _ c.memory_line.ensures.text step c.loop-line.invariant.written c.in_err-write-2.ensures.err)
+    (Writes-cut _ _ _ lines (memory_rows line (drop line chunks)) (joined_words (memory_words line (line_at chunks line))) (memory_rows (line + 1) (drop (line + 1) chunks)) _ c.memory_line.ensures.text step c.loop-line.invariant.written c.in_err-write-2.ensures.err)
 
 pub loop-line-preserved : goal.loop-line-preserved
 loop-line-preserved g c =
@@ -41,6 +41,6 @@ loop-line-preserved g c =
     let line = c.loop-line.line in
     let step = memory_rows-drop chunks line c.loop-line-test.true in
     record {
-      written = Writes-line _ _ _ lines (memory_rows line (drop line chunks)) (line_of (memory_words line (line_at chunks line))) (memory_rows (line + 1) (drop (line + 1) chunks)) _ c.memory_line.ensures.text step c.loop-line.invariant.written c.in_ok-write-2.ensures.ok;
+      written = Writes-line _ _ _ lines (memory_rows line (drop line chunks)) (joined_words (memory_words line (line_at chunks line))) (memory_rows (line + 1) (drop (line + 1) chunks)) _ c.memory_line.ensures.text step c.loop-line.invariant.written c.in_ok-write-2.ensures.ok;
       count = omega arith;
     }

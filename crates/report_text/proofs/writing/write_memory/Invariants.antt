@@ -1,4 +1,4 @@
--- A front part of the lines is written, and the rest is that of the items from here on.
+-- A prefix of the lines is written, and the rest is that of the items from here on.
 use Rattle.std.proofs.Common.{◌≤◌, drop}
 use Rattle.report_text.specs.Report.{memory_part, memory_rows}
 use Rattle.report_text.proofs.Pieces.{Writes}

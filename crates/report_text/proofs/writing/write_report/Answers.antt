@@ -1,6 +1,6 @@
 -- The parts of a report, one after another.
 use Rattle.std.proofs.Common.{[], ◌∷◌, refl}
-use Rattle.report_text.specs.Lines.{line_of}
+use Rattle.report_text.specs.Lines.{joined_words}
 use Rattle.report_text.specs.Rows.{finish_words}
 use Rattle.report_text.specs.Report.{request_part, tile_part, access_part, memory_part, count_part, journal_part, finish_part, joined, report_lines}
 use Rattle.report_text.proofs.Pieces.{Writes-nothing, Writes-line, Writes-lines, Writes-all, Writes-cut, Writes-cut_lines, on_error, on_ok_more, on_error_more}
@@ -74,7 +74,7 @@ returns-clause-ok g c =
     let memory = Writes-lines _ _ _ lines (memory_part r.memory) (joined (count_part r.windows r.hops ∷ journal_part r.journal ∷ finish_part r.ended ∷ [])) accesses (rw c.as_slice-5.ensures at c.in_ok-write_memory.ensures.ok) in
     let counts = Writes-lines _ _ _ lines (count_part r.windows r.hops) (joined (journal_part r.journal ∷ finish_part r.ended ∷ [])) memory c.in_ok-write_counts.ensures.ok in
     let journal = Writes-lines _ _ _ lines (journal_part r.journal) (joined (finish_part r.ended ∷ [])) counts (rw c.as_slice-6.ensures at c.in_ok-write_journal.ensures.ok) in
-    on_ok_more c.write.result _ _ (λ appended. Writes-all _ _ lines (Writes-line _ _ _ lines (finish_part r.ended) (line_of (finish_words r.ended)) [] _ c.finish_line.ensures.text refl journal appended)) c.write.ensures.ok
+    on_ok_more c.write.result _ _ (λ appended. Writes-all _ _ lines (Writes-line _ _ _ lines (finish_part r.ended) (joined_words (finish_words r.ended)) [] _ c.finish_line.ensures.text refl journal appended)) c.write.ensures.ok
 
 pub returns-clause-err : goal.returns-clause-err
 returns-clause-err g c =
@@ -87,4 +87,4 @@ returns-clause-err g c =
     let memory = Writes-lines _ _ _ lines (memory_part r.memory) (joined (count_part r.windows r.hops ∷ journal_part r.journal ∷ finish_part r.ended ∷ [])) accesses (rw c.as_slice-5.ensures at c.in_ok-write_memory.ensures.ok) in
     let counts = Writes-lines _ _ _ lines (count_part r.windows r.hops) (joined (journal_part r.journal ∷ finish_part r.ended ∷ [])) memory c.in_ok-write_counts.ensures.ok in
     let journal = Writes-lines _ _ _ lines (journal_part r.journal) (joined (finish_part r.ended ∷ [])) counts (rw c.as_slice-6.ensures at c.in_ok-write_journal.ensures.ok) in
-    on_error_more c.write.result _ _ (λ cut. Writes-cut _ _ _ lines (finish_part r.ended) (line_of (finish_words r.ended)) [] _ c.finish_line.ensures.text refl journal cut) c.write.ensures.err
+    on_error_more c.write.result _ _ (λ cut. Writes-cut _ _ _ lines (finish_part r.ended) (joined_words (finish_words r.ended)) [] _ c.finish_line.ensures.text refl journal cut) c.write.ensures.err

@@ -1,5 +1,5 @@
 use Rattle.std.proofs.Common.{◌+◌, length, drop, codes, refl, arith}
-use Rattle.report_text.specs.Lines.{line_of}
+use Rattle.report_text.specs.Lines.{joined_words}
 use Rattle.report_text.specs.Report.{request_part, request_rows, count_row}
 use Rattle.report_text.specs.Rows.{request_words}
 use Rattle.report_text.proofs.Pieces.{Writes-nothing, Writes-line, Writes-cut, on_error}
@@ -27,7 +27,7 @@ returns-in_err-write-2-clause-err g c =
     let rest = request_rows (c.loop-place.place + 1) (drop (c.loop-place.place + 1) c.args.requests.now) in
     let step = request_rows-drop c.args.requests.now c.loop-place.place c.loop-place-test.true in
     on_error c.from_residual-in_err-write-2.result _
-    (Writes-cut _ _ _ lines left (line_of (request_words c.loop-place.place (request_at c.args.requests.now c.loop-place.place))) rest _ c.request_line.ensures.text step c.loop-place.invariant.written c.in_err-write-2.ensures.err)
+    (Writes-cut _ _ _ lines left (joined_words (request_words c.loop-place.place (request_at c.args.requests.now c.loop-place.place))) rest _ c.request_line.ensures.text step c.loop-place.invariant.written c.in_err-write-2.ensures.err)
 
 pub loop-place-preserved : goal.loop-place-preserved
 loop-place-preserved g c =
@@ -36,6 +36,6 @@ loop-place-preserved g c =
     let rest = request_rows (c.loop-place.place + 1) (drop (c.loop-place.place + 1) c.args.requests.now) in
     let step = request_rows-drop c.args.requests.now c.loop-place.place c.loop-place-test.true in
     record {
-      written = Writes-line _ _ _ lines left (line_of (request_words c.loop-place.place (request_at c.args.requests.now c.loop-place.place))) rest _ c.request_line.ensures.text step c.loop-place.invariant.written c.in_ok-write-2.ensures.ok;
+      written = Writes-line _ _ _ lines left (joined_words (request_words c.loop-place.place (request_at c.args.requests.now c.loop-place.place))) rest _ c.request_line.ensures.text step c.loop-place.invariant.written c.in_ok-write-2.ensures.ok;
       count = omega arith;
     }

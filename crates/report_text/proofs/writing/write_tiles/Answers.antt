@@ -1,5 +1,5 @@
 use Rattle.std.proofs.Common.{◌+◌, length, drop, get_or, codes, refl, arith}
-use Rattle.report_text.specs.Lines.{line_of}
+use Rattle.report_text.specs.Lines.{joined_words}
 use Rattle.report_text.specs.Report.{tile_part, tile_rows, count_row}
 use Rattle.report_text.specs.Rows.{tile_words}
 use Rattle.report_text.proofs.Pieces.{Writes-nothing, Writes-line, Writes-cut, on_error}
@@ -27,7 +27,7 @@ returns-in_err-write-2-clause-err g c =
     let rest = tile_rows (c.loop-tile.tile + 1) (drop (c.loop-tile.tile + 1) c.args.seen.now) (drop (c.loop-tile.tile + 1) c.args.steps.now) in
     let step = tile_rows-drop c.args.seen.now c.args.steps.now c.loop-tile.tile c.requires c.loop-tile-test.true in
     on_error c.from_residual-in_err-write-2.result _
-    (Writes-cut _ _ _ lines left (line_of (tile_words c.loop-tile.tile (get_or c.args.seen.now c.loop-tile.tile 0) (get_or c.args.steps.now c.loop-tile.tile 0))) rest _ c.tile_line.ensures.text step c.loop-tile.invariant.written c.in_err-write-2.ensures.err)
+    (Writes-cut _ _ _ lines left (joined_words (tile_words c.loop-tile.tile (get_or c.args.seen.now c.loop-tile.tile 0) (get_or c.args.steps.now c.loop-tile.tile 0))) rest _ c.tile_line.ensures.text step c.loop-tile.invariant.written c.in_err-write-2.ensures.err)
 
 pub loop-tile-preserved : goal.loop-tile-preserved
 loop-tile-preserved g c =
@@ -36,6 +36,6 @@ loop-tile-preserved g c =
     let rest = tile_rows (c.loop-tile.tile + 1) (drop (c.loop-tile.tile + 1) c.args.seen.now) (drop (c.loop-tile.tile + 1) c.args.steps.now) in
     let step = tile_rows-drop c.args.seen.now c.args.steps.now c.loop-tile.tile c.requires c.loop-tile-test.true in
     record {
-      written = Writes-line _ _ _ lines left (line_of (tile_words c.loop-tile.tile (get_or c.args.seen.now c.loop-tile.tile 0) (get_or c.args.steps.now c.loop-tile.tile 0))) rest _ c.tile_line.ensures.text step c.loop-tile.invariant.written c.in_ok-write-2.ensures.ok;
+      written = Writes-line _ _ _ lines left (joined_words (tile_words c.loop-tile.tile (get_or c.args.seen.now c.loop-tile.tile 0) (get_or c.args.steps.now c.loop-tile.tile 0))) rest _ c.tile_line.ensures.text step c.loop-tile.invariant.written c.in_ok-write-2.ensures.ok;
       count = omega arith;
     }

@@ -1,5 +1,5 @@
 use Rattle.router_xy.proofs.OwedCounts.{owing-absent}
-use Rattle.router_xy.proofs.OwedWays.{owed_once, one_way, none_ahead}
+use Rattle.router_xy.proofs.OwedOutputs.{owed_once, one_output, none_ahead}
 use Rattle.router_xy.proofs.RoomForNames.{names_fit}
 use Rattle.router_xy.proofs.LocalPlaces.{local_found}
 use Rattle.router_xy.proofs.laws.owed_laws.Goals as goal
@@ -7,8 +7,8 @@ use Rattle.router_xy.proofs.laws.owed_laws.Goals as goal
 pub returns-clause-owed : goal.returns-clause-owed
 returns-clause-owed c = owed_once
 
-pub returns-clause-one_way : goal.returns-clause-one_way
-returns-clause-one_way c = one_way c.tree_laws.ensures.apart
+pub returns-clause-one_output : goal.returns-clause-one_output
+returns-clause-one_output c = one_output c.tree_laws.ensures.apart
 
 pub returns-clause-ahead : goal.returns-clause-ahead
 returns-clause-ahead c = none_ahead

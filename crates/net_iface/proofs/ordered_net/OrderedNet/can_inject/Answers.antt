@@ -2,12 +2,12 @@ use Rattle.std.proofs.Common.{ap, ◌∙◌, sym, arith}
 use Rattle.std.specs.Prelude.{is_some}
 use Rattle.mesh_gen.specs.Grid.{Grid, tiles}
 use Rattle.mesh_gen.specs.declared.request.Request.{Request}
-use Rattle.chip_model.specs.Copies.{entered}
+use Rattle.chip_model.specs.Copies.{after_entry}
 use Rattle.net_iface.specs.Parts.{network_of, interface_of}
 use Rattle.net_iface.proofs.InsideParts.{parts}
 use Rattle.net_iface.proofs.Expected.{interface_at}
 use Rattle.net_iface.proofs.Injects.{IsNextOf, next_is, next_source, next_number, no_next, absent}
-use Rattle.net_iface.proofs.Steps.{is_some-injected, injected-none}
+use Rattle.net_iface.proofs.Steps.{is_some-after_inject, after_inject-none}
 use Rattle.net_iface.proofs.ordered_net.OrderedNet.can_inject.Goals as goal
 
 next : (c : goal.In-Some) → IsNextOf (parts c.self.inside) c.args.t c.args.kind c.args.line c.in-Some.q
@@ -32,12 +32,12 @@ returns-in-Some c =
     let answer = rw (← c.self.view_is) at c.next_request.ensures in
     let one = next_is p c.args.t c.args.kind c.args.line c.in-Some.q (sym answer ∙ c.in-Some.is) in
     rw (← c.self.view_is)
-    (c.can_inject.ensures ∙ ap (λ (g : Grid). is_some (entered g p.routers.copies c.in-Some.q)) c.self.invariant.0.sizes.grid
-    ∙ ap (λ (q : Request). is_some (entered p.chip.grid p.routers.copies q)) (sym one.is)
-    ∙ sym (is_some-injected p.chip (network_of p) c.args.t c.args.kind c.args.line (interface_of p.windows.windows.posts p.ordered p.unordered p.delivered c.args.t) (interface_at p c.args.t one.inside)))
+    (c.can_inject.ensures ∙ ap (λ (g : Grid). is_some (after_entry g p.routers.copies c.in-Some.q)) c.self.invariant.0.sizes.grid
+    ∙ ap (λ (q : Request). is_some (after_entry p.chip.grid p.routers.copies q)) (sym one.is)
+    ∙ sym (is_some-after_inject p.chip (network_of p) c.args.t c.args.kind c.args.line (interface_of p.windows.windows.posts p.ordered p.unordered p.delivered c.args.t) (interface_at p c.args.t one.inside)))
 
 pub returns-in-None : goal.returns-in-None
 returns-in-None c =
     let p = parts c.self.inside in
     let answer = rw (← c.self.view_is) at c.next_request.ensures in
-    rw (← c.self.view_is) (sym (ap is_some (injected-none p.chip (network_of p) c.args.t c.args.kind c.args.line (no_next p c.args.t c.args.kind c.args.line (sym answer ∙ c.in-None.is)))))
+    rw (← c.self.view_is) (sym (ap is_some (after_inject-none p.chip (network_of p) c.args.t c.args.kind c.args.line (no_next p c.args.t c.args.kind c.args.line (sym answer ∙ c.in-None.is)))))

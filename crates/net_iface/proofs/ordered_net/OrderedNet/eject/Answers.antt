@@ -8,7 +8,7 @@ use Rattle.net_iface.proofs.Expected.{expects_tile, interface_at}
 use Rattle.net_iface.proofs.Ejects.{is_next, may_pass, AreKept-eject, eject_seen}
 use Rattle.net_iface.proofs.Kept.{delivered_within}
 use Rattle.net_iface.proofs.Places.{count_read, risen}
-use Rattle.net_iface.proofs.Steps.{delivered_next-some, delivered_next-unknown, delivered_next-absent}
+use Rattle.net_iface.proofs.Steps.{after_delivery-some, after_delivery-unknown, after_delivery-absent}
 use Rattle.net_iface.proofs.Moving.{delivery_moves}
 use Rattle.net_iface.proofs.ordered_net.OrderedNet.eject.Goals as goal
 
@@ -16,7 +16,7 @@ pub returns-in_default-clause-err : goal.returns-in_default-clause-err
 returns-in_default-clause-err c =
     let p = parts c.self.inside in
     let answer = rw (← c.self.view_is) at c.expected.ensures in
-    rw (← c.self.view_is) (delivered_next-unknown p.chip (network_of p) c.args.t (sym answer ∙ c.in_default.is))
+    rw (← c.self.view_is) (after_delivery-unknown p.chip (network_of p) c.args.t (sym answer ∙ c.in_default.is))
 
 pub returns-then-not-holds_local-clause-err : goal.returns-then-not-holds_local-clause-err
 returns-then-not-holds_local-clause-err c =
@@ -26,7 +26,7 @@ returns-then-not-holds_local-clause-err c =
     let expects = sym answer ∙ c.in-Some.is in
     let inside = expects_tile p c.args.t c.in-Some.name expects in
     rw (← c.self.view_is)
-    (delivered_next-absent p.chip (network_of p) c.args.t (interface_of p.windows.windows.posts p.ordered p.unordered p.delivered c.args.t) c.in-Some.name (interface_at p c.args.t inside) expects
+    (after_delivery-absent p.chip (network_of p) c.args.t (interface_of p.windows.windows.posts p.ordered p.unordered p.delivered c.args.t) c.in-Some.name (interface_at p c.args.t inside) expects
     (sym c.holds_local.ensures ∙ c.if-not-holds_local.true))
 
 pub pass_over-requires : goal.pass_over-requires
@@ -86,7 +86,7 @@ returns-clause-ok c =
     let next = is_next p c.args.t c.in-Some.name c.serve_local-q.result kept expects (c.step_laws.ensures.serves _ _ _ _ _ done.served).stood done.name in
     let counts = risen p.delivered c.from.result c.args.t c.args.t c.index_mut.result.now c.from.ensures refl (omega (arith, c.from.ensures, inside, kept.sizes.delivered)) c.index_mut.ensures.value in
     let step =
-    delivered_next-some p.chip (network_of p) c.args.t (interface_of p.windows.windows.posts p.ordered p.unordered p.delivered c.args.t) c.in-Some.name c.serve_local-q.result c.serve_local-q.new.self.copies
+    after_delivery-some p.chip (network_of p) c.args.t (interface_of p.windows.windows.posts p.ordered p.unordered p.delivered c.args.t) c.in-Some.name c.serve_local-q.result c.serve_local-q.new.self.copies
     (interface_at p c.args.t inside) expects done.served
     in
     rw (← c.self.view_is)

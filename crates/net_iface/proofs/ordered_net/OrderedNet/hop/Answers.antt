@@ -1,36 +1,36 @@
 use Rattle.std.proofs.Common.{◌≡◌, None}
-use Rattle.chip_model.specs.OrderedNetwork.{copy_hopped}
+use Rattle.chip_model.specs.OrderedNetwork.{after_copy_hop}
 use Rattle.net_iface.specs.Parts.{network_of}
 use Rattle.net_iface.proofs.InsideParts.{parts}
 use Rattle.net_iface.proofs.Kept.{AreKept-hop}
-use Rattle.net_iface.proofs.Steps.{on_err, copy_hopped-some, copy_hopped-none}
+use Rattle.net_iface.proofs.Steps.{on_err, after_copy_hop-some, after_copy_hop-none}
 use Rattle.net_iface.proofs.Moving.{hop_moves}
 use Rattle.net_iface.proofs.ordered_net.OrderedNet.hop.Goals as goal
 
 pub returns-in_err-hop-clause-err : goal.returns-in_err-hop-clause-err
 returns-in_err-hop-clause-err c =
     let p = parts c.self.inside in
-    let behind = rw (← c.self.view_is) at c.expected_behind-expected.ensures in
+    let behind = rw (← c.self.view_is) at c.expected_at_next_hop-expected.ensures in
     let none = rw c.self.invariant.0.sizes.grid at c.in_err-hop.ensures.err in
-    let refused : copy_hopped c.args.self.now.chip c.args.self.now.network c.args.r c.args.port c.args.slot c.args.out ≡ None =
-    rw (← c.self.view_is) (copy_hopped-none p.chip (network_of p) c.args.r c.args.port c.args.slot c.args.out c.expected_behind-expected.result behind none)
+    let refused : after_copy_hop c.args.self.now.chip c.args.self.now.network c.args.r c.args.port c.args.slot c.args.out ≡ None =
+    rw (← c.self.view_is) (after_copy_hop-none p.chip (network_of p) c.args.r c.args.port c.args.slot c.args.out c.expected_at_next_hop-expected.result behind none)
     in
     on_err c.from_residual.result _ refused
 
 pub invariant_of-self-2 : goal.invariant_of-self-2
 invariant_of-self-2 c =
-    let behind = rw (← c.self.view_is) at c.expected_behind-expected.ensures in
+    let behind = rw (← c.self.view_is) at c.expected_at_next_hop-expected.ensures in
     let done = c.in_ok-hop.ensures in (
-      AreKept-hop (parts c.self.inside) c.hop.new.self c.args.r c.args.out c.expected_behind-expected.result done.grid done.vcs behind done.owed done.requests done.reserved c.self.invariant.0,
+      AreKept-hop (parts c.self.inside) c.hop.new.self c.args.r c.args.out c.expected_at_next_hop-expected.result done.grid done.vcs behind done.owed done.requests done.reserved c.self.invariant.0,
       c.self.invariant.1,
     )
 
 pub returns-clause-ok : goal.returns-clause-ok
 returns-clause-ok c =
     let p = parts c.self.inside in
-    let behind = rw (← c.self.view_is) at c.expected_behind-expected.ensures in
+    let behind = rw (← c.self.view_is) at c.expected_at_next_hop-expected.ensures in
     let done = rw c.self.invariant.0.sizes.grid at c.in_ok-hop.ensures.ok in
-    rw (← c.self.view_is) (copy_hopped-some p.chip (network_of p) c.args.r c.args.port c.args.slot c.args.out c.expected_behind-expected.result c.hop.new.self.copies behind done)
+    rw (← c.self.view_is) (after_copy_hop-some p.chip (network_of p) c.args.r c.args.port c.args.slot c.args.out c.expected_at_next_hop-expected.result c.hop.new.self.copies behind done)
 
 pub returns-clause-moves : goal.returns-clause-moves
 returns-clause-moves c =

@@ -3,9 +3,9 @@ use Rattle.std.specs.Prelude.{slice_index}
 use Rattle.mesh_gen.specs.Grid.{tiles}
 use Rattle.mesh_gen.specs.declared.request.Request.{Request}
 use Rattle.chip_model.specs.Chip.{tile_count}
-use Rattle.chip_model.specs.Copies.{entered}
+use Rattle.chip_model.specs.Copies.{after_entry}
 use Rattle.chip_model.specs.CopiesOwed.{channel_count}
-use Rattle.chip_model.specs.OrderedNetwork.{injected}
+use Rattle.chip_model.specs.OrderedNetwork.{after_inject}
 use Rattle.net_iface.specs.Unordered.{unordered_of}
 use Rattle.net_iface.specs.Parts.{network_of, interface_of}
 use Rattle.net_iface.proofs.InsideParts.{parts}
@@ -13,14 +13,14 @@ use Rattle.net_iface.proofs.Expected.{interface_at}
 use Rattle.net_iface.proofs.Injects.{next_is, next_source, next_number, no_next, absent, has_room, made_below, next_made, AreKept-inject, inject_seen}
 use Rattle.net_iface.proofs.Laws.{room_for_names}
 use Rattle.net_iface.proofs.Places.{count_read, risen}
-use Rattle.net_iface.proofs.Steps.{on_err, injected-some, injected-full, injected-none}
+use Rattle.net_iface.proofs.Steps.{on_err, after_inject-some, after_inject-full, after_inject-none}
 use Rattle.net_iface.proofs.ordered_net.OrderedNet.inject.Goals as goal
 
 pub returns-in_default-clause-err : goal.returns-in_default-clause-err
 returns-in_default-clause-err c =
     let p = parts c.self.inside in
     let answer = rw (← c.self.view_is) at c.next_request.ensures in
-    rw (← c.self.view_is) (injected-none p.chip (network_of p) c.args.t c.args.kind c.args.line (no_next p c.args.t c.args.kind c.args.line (sym answer ∙ c.in_default.is)))
+    rw (← c.self.view_is) (after_inject-none p.chip (network_of p) c.args.t c.args.kind c.args.line (no_next p c.args.t c.args.kind c.args.line (sym answer ∙ c.in_default.is)))
 
 pub inject-requires-clause-source : goal.inject-requires-clause-source
 inject-requires-clause-source c =
@@ -51,9 +51,9 @@ returns-in_err-inject-clause-err c =
     let source = next_source p c.args.t c.args.kind c.args.line c.in-Some.q one in
     let number = next_number p c.args.t c.args.kind c.args.line c.in-Some.q one in
     let full = rw kept.sizes.grid at c.in_err-inject.ensures.err in
-    let full_here = ap (λ (q : Request). entered p.chip.grid p.routers.copies q) one.is ∙ full in
-    let refused : injected c.args.self.now.chip c.args.self.now.network c.args.t c.args.kind c.args.line ≡ None =
-    rw (← c.self.view_is) (injected-full p.chip (network_of p) c.args.t c.args.kind c.args.line (interface_of p.windows.windows.posts p.ordered p.unordered p.delivered c.args.t) (interface_at p c.args.t one.inside) full_here)
+    let full_here = ap (λ (q : Request). after_entry p.chip.grid p.routers.copies q) one.is ∙ full in
+    let refused : after_inject c.args.self.now.chip c.args.self.now.network c.args.t c.args.kind c.args.line ≡ None =
+    rw (← c.self.view_is) (after_inject-full p.chip (network_of p) c.args.t c.args.kind c.args.line (interface_of p.windows.windows.posts p.ordered p.unordered p.delivered c.args.t) (interface_at p c.args.t one.inside) full_here)
     in
     on_err c.from_residual.result _ refused
 
@@ -134,8 +134,8 @@ returns-clause-ok c =
     let reserves = rw kept.sizes.vcs at done.reserved in
     let entered_here = rw kept.sizes.grid at done.ok in
     let step =
-    injected-some p.chip (network_of p) c.args.t c.args.kind c.args.line (interface_of p.windows.windows.posts p.ordered p.unordered p.delivered c.args.t) c.inject.new.self.copies (interface_at p c.args.t one.inside)
-    (ap (λ (q : Request). entered p.chip.grid p.routers.copies q) one.is ∙ entered_here)
+    after_inject-some p.chip (network_of p) c.args.t c.args.kind c.args.line (interface_of p.windows.windows.posts p.ordered p.unordered p.delivered c.args.t) c.inject.new.self.copies (interface_at p c.args.t one.inside)
+    (ap (λ (q : Request). after_entry p.chip.grid p.routers.copies q) one.is ∙ entered_here)
     in
     rw (← c.self.view_is)
     (step

@@ -2,8 +2,8 @@ use Rattle.std.proofs.Common.{◌≡◌, replicate, refl, sym, ◌∙◌, ap, su
 use Rattle.std.proofs.lemmas.Grind.{common_steps}
 use Rattle.chip_model.specs.Chip.{chip_of_mesh}
 use Rattle.chip_model.specs.OrderedNetwork.{OrderedNetwork}
-use Rattle.net_iface.specs.Parts.{Parts, state_of, AreKept}
-use Rattle.net_iface.proofs.Opening.{opening_parts, AreKept-opening, opening_seen}
+use Rattle.net_iface.specs.Parts.{Parts, network_of_parts, AreKept}
+use Rattle.net_iface.proofs.Opening.{opening_parts, AreKept-opening_state, opening_seen}
 use Rattle.net_iface.proofs.ordered_net.OrderedNet.«open».Goals as goal
 
 opened_parts : (c : goal.In_ok-vec-2) → record {
@@ -26,12 +26,12 @@ pub invariant_of-result : goal.invariant_of-result
 invariant_of-result c =
     let chip = chip_of_mesh c.args.mesh.now in
     let trackers = c.in_ok-new_trackers.field-0.items in
-    let kept = AreKept-opening chip c.args.room trackers (omega (arith, c.tiles.ensures.tiles, c.tiles.ensures.limits.low)) c.step_laws.ensures.opened c.owed_laws.ensures.absent (omega (arith, c.tiles.ensures.tiles, c.tiles.ensures.limits.high)) c.requires c.in_ok-new_trackers.ensures in
+    let kept = AreKept-opening_state chip c.args.room trackers (omega (arith, c.tiles.ensures.tiles, c.tiles.ensures.limits.low)) c.step_laws.ensures.opened c.owed_laws.ensures.absent (omega (arith, c.tiles.ensures.tiles, c.tiles.ensures.limits.high)) c.requires c.in_ok-new_trackers.ensures in
     (subst (λ (p : Parts). AreKept p) (sym (opened_parts c)) kept, c.in_ok-with_capacity.ensures.capacity)
 
 pub returns : goal.returns
 returns c =
     let chip = chip_of_mesh c.args.mesh.now in
-    ap state_of (opened_parts c)
+    ap network_of_parts (opened_parts c)
     ∙ ap (λ (net : OrderedNetwork). record { chip = chip; network = net; room = c.args.room })
     (opening_seen chip c.args.room c.in_ok-new_trackers.field-0.items (omega (arith, c.tiles.ensures.tiles, c.tiles.ensures.limits.low)) c.step_laws.ensures.opened c.owed_laws.ensures.absent)

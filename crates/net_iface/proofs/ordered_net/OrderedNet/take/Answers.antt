@@ -3,7 +3,7 @@ use Rattle.mesh_gen.specs.Grid.{tiles}
 use Rattle.net_iface.specs.Parts.{network_of}
 use Rattle.net_iface.proofs.InsideParts.{parts}
 use Rattle.net_iface.proofs.Laws.{room_for_names}
-use Rattle.net_iface.proofs.Steps.{vector_taken-some, vector_taken-none}
+use Rattle.net_iface.proofs.Steps.{after_vector_take-some, after_vector_take-none}
 use Rattle.chip_model.specs.Windows.{Windows}
 use Rattle.net_iface.proofs.Views.{windows_seen}
 use Rattle.net_iface.proofs.Taken.{take_is, may_take_in, AreKept-take}
@@ -43,11 +43,11 @@ returns-in-Ok-clause-ok c =
     let p = parts c.self.inside in
     let one = take_is p.windows.windows c.args.t c.in-Ok.vector c.take.new.self.windows c.in-Ok.ensures.ok c.in-Ok.ensures.vector in
     rw (← c.self.view_is)
-    (vector_taken-some (network_of p) c.args.t c.take.new.self.windows c.in-Ok.ensures.ok
+    (after_vector_take-some (network_of p) c.args.t c.take.new.self.windows c.in-Ok.ensures.ok
     ∙ ap Some (windows_seen p c.take.new.self (ap (λ (w : Windows). w.posts) (sym one.is))))
 
 pub returns-in-Err-clause-err : goal.returns-in-Err-clause-err
-returns-in-Err-clause-err c = rw (← c.self.view_is) (vector_taken-none (network_of (parts c.self.inside)) c.args.t c.in-Err.ensures.err)
+returns-in-Err-clause-err c = rw (← c.self.view_is) (after_vector_take-none (network_of (parts c.self.inside)) c.args.t c.in-Err.ensures.err)
 
 pub returns-in-Ok-clause-moves : goal.returns-in-Ok-clause-moves
 returns-in-Ok-clause-moves c = take_moves c.args.self.now.network _ c.args.t (returns-in-Ok-clause-ok c)

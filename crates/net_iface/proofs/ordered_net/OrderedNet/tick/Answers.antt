@@ -7,9 +7,9 @@ use Rattle.net_iface.specs.Unordered.{lowest_of, LoseLowest}
 use Rattle.net_iface.specs.Parts.{network_of}
 use Rattle.net_iface.proofs.InsideParts.{parts}
 use Rattle.net_iface.proofs.Kept.{AreKept-merge, AreKept-close}
-use Rattle.net_iface.proofs.Steps.{merge_is, close_is, IsLast, last_is, not_last, network_ticked-last, network_ticked-other, network_ticked-none}
+use Rattle.net_iface.proofs.Steps.{merge_is, close_is, IsLast, last_is, not_last, after_network_tick-last, after_network_tick-other, after_network_tick-none}
 use Rattle.net_iface.proofs.Views.{windows_seen, closing_seen}
-use Rattle.net_iface.proofs.Turns.{window_le}
+use Rattle.net_iface.proofs.Priorities.{window_le}
 use Rattle.net_iface.proofs.ordered_net.OrderedNet.tick.Goals as goal
 
 is_last : (c : goal.After-order_window) → IsLast (parts c.self.inside).windows.ticks (parts c.self.inside).windows.windows c.in-Ok-Some.vector
@@ -49,7 +49,7 @@ returns-in-Ok-Some-clause-ok c =
     let is = is_last c in
     let last = rw c.self.invariant.0.sizes.ticks at is.last in
     rw (← c.self.view_is)
-    (network_ticked-last p.chip (network_of p) c.tick.new.self.windows ticks last
+    (after_network_tick-last p.chip (network_of p) c.tick.new.self.windows ticks last
     ∙ ap Some (closing_seen p c.tick.new.self c.order_window.new.ordered.items c.order_window.new.lists.items (closes c) (loses c) (orders c) c.self.invariant.0))
 
 pub returns-in-Ok-None-clause-ok : goal.returns-in-Ok-None-clause-ok
@@ -60,12 +60,12 @@ returns-in-Ok-None-clause-ok c =
     let other_here = rw c.self.invariant.0.sizes.ticks at other in
     let merged = merge_is p.windows.ticks p.windows.windows c.tick.new.self.windows c.in-Ok-None.ensures.ok other in
     rw (← c.self.view_is)
-    (network_ticked-other p.chip (network_of p) c.tick.new.self.windows ticks other_here ∙ ap Some (windows_seen p c.tick.new.self (sym (ap (λ (w : Windows). w.posts) merged))))
+    (after_network_tick-other p.chip (network_of p) c.tick.new.self.windows ticks other_here ∙ ap Some (windows_seen p c.tick.new.self (sym (ap (λ (w : Windows). w.posts) merged))))
 
 pub returns-in-Err-clause-err : goal.returns-in-Err-clause-err
 returns-in-Err-clause-err c =
     let p = parts c.self.inside in
-    rw (← c.self.view_is) (network_ticked-none p.chip (network_of p) (rw c.self.invariant.0.sizes.ticks at c.in-Err.ensures.err))
+    rw (← c.self.view_is) (after_network_tick-none p.chip (network_of p) (rw c.self.invariant.0.sizes.ticks at c.in-Err.ensures.err))
 
 pub returns-in-Ok-Some-clause-few : goal.returns-in-Ok-Some-clause-few
 returns-in-Ok-Some-clause-few c =

@@ -8,7 +8,7 @@ pub next_channel-requires-clause-from : goal.next_channel-requires-clause-from
 next_channel-requires-clause-from c = router_inside _ _ c.args.r _ _ c.in-Some.msg c.self.invariant.0 (seen_at _ _ _ _ _ _ _ c.deref.ensures.value c.packet_at.ensures c.in-Some.is)
 
 pub next_channel-requires-clause-to : goal.next_channel-requires-clause-to
-next_channel-requires-clause-to c = (c.self.invariant.0.on_ways c.args.r c.args.port c.args.slot c.in-Some.msg (seen_at _ _ _ _ _ _ _ c.deref.ensures.value c.packet_at.ensures c.in-Some.is)).0
+next_channel-requires-clause-to c = (c.self.invariant.0.on_routes c.args.r c.args.port c.args.slot c.in-Some.msg (seen_at _ _ _ _ _ _ _ c.deref.ensures.value c.packet_at.ensures c.in-Some.is)).0
 
 pub returns-in-Some : goal.returns-in-Some
 returns-in-Some c = rw (← c.self.view_is)

@@ -12,7 +12,7 @@ pub next_channel-requires-clause-from : goal.next_channel-requires-clause-from
 next_channel-requires-clause-from c = router_inside _ c.self.inside.banks.items c.args.r (port_number c.args.port) c.args.slot c.in-Some.msg c.self.invariant.0 (seen_at _ _ _ _ _ _ _ c.deref.ensures.value c.packet_at.ensures c.in-Some.is)
 
 pub next_channel-requires-clause-to : goal.next_channel-requires-clause-to
-next_channel-requires-clause-to c = (c.self.invariant.0.on_ways c.args.r c.args.port c.args.slot c.in-Some.msg (seen_at _ _ _ _ _ _ _ c.deref.ensures.value c.packet_at.ensures c.in-Some.is)).0
+next_channel-requires-clause-to c = (c.self.invariant.0.on_routes c.args.r c.args.port c.args.slot c.in-Some.msg (seen_at _ _ _ _ _ _ _ c.deref.ensures.value c.packet_at.ensures c.in-Some.is)).0
 
 pub returns-in_default-next_channel-clause-err : goal.returns-in_default-next_channel-clause-err
 returns-in_default-next_channel-clause-err c =
@@ -43,7 +43,7 @@ invariant_of-self c =
     let kept = kept_total (λ msg. 1) net mid c.put_into.new.banks.items c.args.r (port_number c.args.port) c.args.slot next.router (port_number next.port) next.slot msg stood c.leave.ensures free c.put_into.ensures in (
       sound-put g mid c.put_into.new.banks.items next.router next.port next.slot msg
           (sound-take g net mid c.args.r (port_number c.args.port) c.args.slot msg c.self.invariant.0 stood c.leave.ensures) free
-          (c.self.invariant.0.on_ways c.args.r c.args.port c.args.slot msg stood).0 (stands_next g net c.args.r msg next c.route_laws.ensures.stands_on c.self.invariant.0.some found) c.put_into.ensures,
+          (c.self.invariant.0.on_routes c.args.r c.args.port c.args.slot msg stood).0 (stands_next g net c.args.r msg next c.route_laws.ensures.stands_on c.self.invariant.0.some found) c.put_into.ensures,
       c.self.invariant.1 ∙ sym kept,
     )
 
@@ -75,5 +75,5 @@ returns-clause-moves c =
     let stood = seen_at c.deref.result.now net c.args.r (port_number c.args.port) c.args.slot _ _ c.deref.ensures.value c.packet_at.ensures c.in-Some.is in
     let found = next_found g net c.args.r msg next (seen_next _ _ _ _ _ _ _ c.deref-2.ensures.value c.next_channel.ensures c.in-Some-next_channel.is) in
     let other = elsewhere g net c.args.r msg next c.route_laws.ensures.nearer c.self.invariant.0.some found in
-    let falls = falls_next g net c.args.r c.args.port msg next c.route_laws.ensures.ranks_there c.self.invariant.0.some (c.self.invariant.0.on_ways c.args.r c.args.port c.args.slot msg stood).1 found in
+    let falls = falls_next g net c.args.r c.args.port msg next c.route_laws.ensures.ranks_there c.self.invariant.0.some (c.self.invariant.0.on_routes c.args.r c.args.port c.args.slot msg stood).1 found in
     rw (← c.self.view_is) (moves g net mid c.put_into.new.banks.items c.args.r c.args.port c.args.slot msg next other stood c.leave.ensures (free_found net next.router (port_number next.port) next.slot found.lowest) c.put_into.ensures falls)

@@ -7,5 +7,5 @@ returns-clause-empty c = rw (← c.self.view_is, c.self.invariant.1) (is_empty-c
 pub returns-clause-none : goal.returns-clause-none
 returns-clause-none c = rw (← c.self.view_is) (none_stands c.self.inside.banks.items c.self.inside.count c.self.invariant.1)
 
-pub returns-clause-on_ways : goal.returns-clause-on_ways
-returns-clause-on_ways c = rw (← c.self.view_is) c.self.invariant.0.on_ways
+pub returns-clause-on_routes : goal.returns-clause-on_routes
+returns-clause-on_routes c = rw (← c.self.view_is) c.self.invariant.0.on_routes

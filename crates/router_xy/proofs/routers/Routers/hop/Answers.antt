@@ -3,8 +3,8 @@ use Rattle.mesh_gen.specs.Grid.{tiles}
 use Rattle.mesh_gen.specs.Mesh.{grid}
 use Rattle.mesh_gen.specs.Ports.{port_number, opposite}
 use Rattle.chip_model.specs.Copies.{channels_of, expects}
-use Rattle.chip_model.specs.CopiesOwed.{StandsOnTree}
-use Rattle.router_xy.specs.RequestNetwork.{IsWay}
+use Rattle.chip_model.specs.CopiesOwed.{IsOnTree}
+use Rattle.router_xy.specs.RequestNetwork.{IsOpenHop}
 use Rattle.router_xy.proofs.Steps.{hopped_by, landed}
 use Rattle.router_xy.proofs.OwedCounts.{Leaves, Arrives, may_go_on, owes_same}
 use Rattle.router_xy.proofs.WhereCopies.{normal_or_expected, hop_brings_none, hop_reserves}
@@ -17,16 +17,16 @@ put_into-requires c =
     let g = grid c.self.inside.mesh in
     let net = c.self.inside.banks.items in
     let way = c.in-Some.way in
-    let go : IsWay g net c.args.r c.args.port c.args.slot c.args.out c.args.expected way = rw (← c.self.view_is) at c.in-Some.ensures.some in
+    let go : IsOpenHop g net c.args.r c.args.port c.args.slot c.args.out c.args.expected way = rw (← c.self.view_is) at c.in-Some.ensures.some in
     (omega arith, entry_beside g c.self.inside.vcs net c.leave.new.banks.items c.args.r c.args.port c.args.slot c.args.out c.opposite.result c.args.expected way c.left_by.result c.self.invariant go c.leave.ensures c.opposite.ensures)
 
-go : (c : goal.After-put_into) → IsWay (grid c.self.inside.mesh) c.self.inside.banks.items c.args.r c.args.port c.args.slot c.args.out c.args.expected c.in-Some.way
+go : (c : goal.After-put_into) → IsOpenHop (grid c.self.inside.mesh) c.self.inside.banks.items c.args.r c.args.port c.args.slot c.args.out c.args.expected c.in-Some.way
 go c = rw (← c.self.view_is) at c.in-Some.ensures.some
 
 to_inside : (c : goal.After-put_into) → c.in-Some.way.to < tiles (grid c.self.inside.mesh)
 to_inside c = way_inside (grid c.self.inside.mesh) c.self.inside.vcs c.self.inside.banks.items c.args.r c.args.port c.args.slot c.args.out c.args.expected c.in-Some.way c.self.invariant (go c)
 
-on : (c : goal.After-put_into) → StandsOnTree (grid c.self.inside.mesh) c.args.r c.in-Some.way.copy
+on : (c : goal.After-put_into) → IsOnTree (grid c.self.inside.mesh) c.args.r c.in-Some.way.copy
 on c = c.self.invariant.fit.stand c.args.r (port_number c.args.port) c.args.slot c.in-Some.way.copy (go c).stands
 
 leaves : (c : goal.After-put_into) → Leaves c.self.inside.banks.items c.leave.new.banks.items c.args.r (port_number c.args.port) c.args.slot c.args.out c.in-Some.way.copy c.left_by.result

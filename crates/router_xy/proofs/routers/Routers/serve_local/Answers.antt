@@ -4,11 +4,11 @@ use Rattle.mesh_gen.specs.Mesh.{grid}
 use Rattle.mesh_gen.specs.Ports.{port_number}
 use Rattle.vc_bank.specs.Places.{at}
 use Rattle.chip_model.specs.Copies.{is_named, owes, local_place}
-use Rattle.chip_model.specs.CopiesOwed.{StandsOnTree}
+use Rattle.chip_model.specs.CopiesOwed.{IsOnTree}
 use Rattle.router_xy.specs.RequestNetwork.{numbered}
 use Rattle.router_xy.proofs.LocalPlaces.{seen_place, local_stands}
 use Rattle.router_xy.proofs.Steps.{seen_at, served_at}
-use Rattle.router_xy.proofs.CopyWays.{name_is, some_is}
+use Rattle.router_xy.proofs.CopyOutputs.{name_is, some_is}
 use Rattle.router_xy.proofs.OwedCounts.{Leaves, owes_less}
 use Rattle.router_xy.proofs.WhereCopies.{none_comes, before-leave}
 use Rattle.router_xy.proofs.Sound.{sound-leave}
@@ -39,7 +39,7 @@ local_copy c =
     let there = local_stands c.self.inside.banks.items c.args.r c.args.id (port_number c.in-Some.port) c.in-Some.slot (place c) in
     subst (λ copy. (is_named c.args.id copy.request ≡ true) × (owes copy L ≡ true)) (some_is there.0 c.in-Some-packet_at.copy (sym there.1 ∙ stands c)) (there.2, there.3)
 
-on : (c : goal.After-result-1) → StandsOnTree (grid c.self.inside.mesh) c.args.r c.in-Some-packet_at.copy
+on : (c : goal.After-result-1) → IsOnTree (grid c.self.inside.mesh) c.args.r c.in-Some-packet_at.copy
 on c = c.self.invariant.fit.stand c.args.r (port_number c.in-Some.port) c.in-Some.slot c.in-Some-packet_at.copy (stands c)
 
 leaves : (c : goal.After-result-1) → Leaves c.self.inside.banks.items c.leave.new.banks.items c.args.r (port_number c.in-Some.port) c.in-Some.slot L c.in-Some-packet_at.copy c.left_by.result

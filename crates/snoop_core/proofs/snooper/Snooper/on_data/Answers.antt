@@ -3,7 +3,7 @@ use Rattle.std.proofs.lemmas.List.{append-nil}
 use Rattle.chip_model.specs.Chip.{chip_of_mesh}
 use Rattle.chip_model.specs.Snoop.{Outcome}
 use Rattle.miss_table.specs.declared.look.DemandLook.{DemandLook}
-use Rattle.snoop_core.specs.ChipSides.{ChipSide, left_by}
+use Rattle.snoop_core.specs.ChipSides.{ChipSide, after_outcome}
 use Rattle.snoop_core.proofs.Seen.{sees_demand, no_demand_seen, demand_was_sent}
 use Rattle.snoop_core.proofs.OwnSteps.{data_completes, data_waits, data_nowhere, lacks_words_still, early_left}
 use Rattle.snoop_core.proofs.snooper.Snooper.on_data.Goals as goal
@@ -32,7 +32,7 @@ put_early-requires c =
 pub returns-in-Some-ordered-clause-side : goal.returns-in-Some-ordered-clause-side
 returns-in-Some-ordered-clause-side c =
     let seen = sees_demand c.args.self.now.side.misses.demand c.in-Some.demand (sym c.demand.ensures ∙ c.in-Some.is) in
-    c.complete.ensures.side ∙ ap (λ (o : Outcome). left_by o c.args.self.now) (sym (data_completes c.args.self.now seen.demand c.in-Some-ordered.place c.args.words seen.stands (ap (λ (l : DemandLook). l.ordered) seen.looks ∙ c.in-Some-ordered.is)))
+    c.complete.ensures.side ∙ ap (λ (o : Outcome). after_outcome o c.args.self.now) (sym (data_completes c.args.self.now seen.demand c.in-Some-ordered.place c.args.words seen.stands (ap (λ (l : DemandLook). l.ordered) seen.looks ∙ c.in-Some-ordered.is)))
 
 pub returns-in-Some-ordered-clause-sent : goal.returns-in-Some-ordered-clause-sent
 returns-in-Some-ordered-clause-sent c =
@@ -64,7 +64,7 @@ pub returns-in-None : goal.returns-in-None
 returns-in-None c =
     let is = data_nowhere c.args.self.now c.args.words (no_demand_seen c.args.self.now.side.misses.demand (sym c.demand.ensures ∙ c.in-None.is)) in
     record {
-      side = ap (λ (o : Outcome). left_by o c.args.self.now) (sym is);
+      side = ap (λ (o : Outcome). after_outcome o c.args.self.now) (sym is);
       sent = sym (append-nil c.args.out.now) ∙ ap (λ (o : Outcome). c.args.out.now ++ o.sends) (sym is);
       done = ap (λ (o : Outcome). o.done) (sym is);
     }

@@ -1,6 +1,6 @@
 use Rattle.std.proofs.Common.{◌≤◌, ◌++◌, length, sym, ◌∙◌, ap, subst}
 use Rattle.chip_model.specs.Snoop.{Outcome}
-use Rattle.snoop_core.specs.ChipSides.{left_by}
+use Rattle.snoop_core.specs.ChipSides.{after_outcome}
 use Rattle.snoop_core.proofs.OwnSteps.{snooped_other, met_done, snooped_get, snooped_put, put_done}
 use Rattle.snoop_core.proofs.snooper.Snooper.on_request.Goals as goal
 
@@ -10,7 +10,7 @@ meet-requires-clause-room c =
 
 pub returns-then-q-tile-clause-side : goal.returns-then-q-tile-clause-side
 returns-then-q-tile-clause-side c =
-    c.meet.ensures.side ∙ ap (λ (o : Outcome). left_by o c.args.self.now) (sym (snooped_other c.args.self.now c.args.tile c.args.place c.args.q c.if-q-tile.true))
+    c.meet.ensures.side ∙ ap (λ (o : Outcome). after_outcome o c.args.self.now) (sym (snooped_other c.args.self.now c.args.tile c.args.place c.args.q c.if-q-tile.true))
 
 pub returns-then-q-tile-clause-sent : goal.returns-then-q-tile-clause-sent
 returns-then-q-tile-clause-sent c =
@@ -28,14 +28,14 @@ pub returns-in-GetS : goal.returns-in-GetS
 returns-in-GetS c =
     let is = snooped_get c.args.self.now c.args.tile c.args.place c.args.q c.if-q-tile.false c.in-GetS.is in
     record {
-      side = c.order_demand.ensures.side ∙ ap (λ (o : Outcome). left_by o c.args.self.now) (sym is);
+      side = c.order_demand.ensures.side ∙ ap (λ (o : Outcome). after_outcome o c.args.self.now) (sym is);
       sent = c.order_demand.ensures.sent ∙ ap (λ (o : Outcome). c.args.out.now ++ o.sends) (sym is);
       done = c.order_demand.ensures.done ∙ ap (λ (o : Outcome). o.done) (sym is);
     }
 
 pub returns-in-PutM-clause-side : goal.returns-in-PutM-clause-side
 returns-in-PutM-clause-side c =
-    c.end_back.ensures.side ∙ ap (λ (o : Outcome). left_by o c.args.self.now) (sym (snooped_put c.args.self.now c.args.tile c.args.place c.args.q c.if-q-tile.false c.in-PutM.is))
+    c.end_back.ensures.side ∙ ap (λ (o : Outcome). after_outcome o c.args.self.now) (sym (snooped_put c.args.self.now c.args.tile c.args.place c.args.q c.if-q-tile.false c.in-PutM.is))
 
 pub returns-in-PutM-clause-sent : goal.returns-in-PutM-clause-sent
 returns-in-PutM-clause-sent c =

@@ -1,15 +1,15 @@
 use Rattle.std.proofs.Common.{◌≡◌, true, refl, sym, ◌∙◌, rules}
 use Rattle.std.specs.Prelude.{is_some}
-use Rattle.chip_model.specs.Windows.{posted}
-use Rattle.window_core.proofs.Steps.{posted-first, posted-some}
+use Rattle.chip_model.specs.Windows.{after_post}
+use Rattle.window_core.proofs.Steps.{after_post-first, after_post-some}
 use Rattle.window_core.proofs.Kept.{IsKept-post}
 use Rattle.window_core.proofs.windows.Windows.post.Goals as goal
 
 pub invariant_of-self : goal.invariant_of-self
 invariant_of-self c =
     let yes : c.can_post.result ≡ true = search rules in
-    let so : is_some (posted c.args.self.now.windows c.args.t) ≡ true = sym c.can_post.ensures.posts ∙ yes in
-    let first_then : c.args.self.now.windows.phase ≡ 0 = posted-first c.args.self.now.windows c.args.t so in
+    let so : is_some (after_post c.args.self.now.windows c.args.t) ≡ true = sym c.can_post.ensures.posts ∙ yes in
+    let first_then : c.args.self.now.windows.phase ≡ 0 = after_post-first c.args.self.now.windows c.args.t so in
     let first = rw (← c.self.view_is) at first_then in
     let tile = rw (← c.self.view_is) at c.if-not-can_post.ensures.tile in (
       rw c.with_tile-self-inside.ensures
@@ -20,5 +20,5 @@ invariant_of-self c =
 pub returns-clause-ok : goal.returns-clause-ok
 returns-clause-ok c =
     let yes : c.can_post.result ≡ true = search rules in
-    let so : is_some (posted c.args.self.now.windows c.args.t) ≡ true = sym c.can_post.ensures.posts ∙ yes in
-    posted-some c.args.self.now.windows c.args.t so ∙ rw (← c.self.view_is, c.with_tile-self-inside.ensures) refl
+    let so : is_some (after_post c.args.self.now.windows c.args.t) ≡ true = sym c.can_post.ensures.posts ∙ yes in
+    after_post-some c.args.self.now.windows c.args.t so ∙ rw (← c.self.view_is, c.with_tile-self-inside.ensures) refl

@@ -4,14 +4,14 @@ use Rattle.std.proofs.lemmas.Option.{get_or_from_slice_get}
 use Rattle.mesh_gen.specs.Grid.{tiles}
 use Rattle.order_tracker.specs.Tracker.{IsWindow}
 use Rattle.window_core.proofs.Kept.{IsKept-take}
-use Rattle.window_core.proofs.Steps.{next_from, next-within, next-below, next-all, next_vector-some, taken_by-some, taken_by-none}
+use Rattle.window_core.proofs.Steps.{next_from, next-within, next-below, next-all, next_vector-some, after_take-some, after_take-none}
 use Rattle.window_core.proofs.windows.Windows.take.Goals as goal
 
 pub returns-in_default-clause-err : goal.returns-in_default-clause-err
 returns-in_default-clause-err c =
     let gives : c.next_of.result ≡ option_and_then (slice_get c.self.inside.closed.items) (slice_get c.self.inside.taken.items c.args.t) = c.next_of.ensures ∙ rw (c.deref.ensures.value, c.deref-2.ensures.value) refl in
     let none : c.next_of.result ≡ None = search rules in
-    rw (← c.self.view_is) (taken_by-none (record { phase = c.self.inside.phase; posts = c.self.inside.posts; closed = c.self.inside.closed.items; taken = c.self.inside.taken.items }) c.args.t (sym gives ∙ none))
+    rw (← c.self.view_is) (after_take-none (record { phase = c.self.inside.phase; posts = c.self.inside.posts; closed = c.self.inside.closed.items; taken = c.self.inside.taken.items }) c.args.t (sym gives ∙ none))
 
 pub index_mut-requires : goal.index_mut-requires
 index_mut-requires c =
@@ -44,7 +44,7 @@ returns-clause-ok c =
     let is : c.next_of.result ≡ Some c.in-Some.vector = search rules in
     let next = next_from c.self.inside.taken.items c.self.inside.closed.items c.args.t c.in-Some.vector (sym gives ∙ is) in
     let here : c.index_mut.result.now ≡ next.at = c.index_mut.ensures.value ∙ rw c.from.ensures (get_or_from_slice_get c.self.inside.taken.items c.args.t next.at c.index_mut.result.now next.counted) in
-    rw (← c.self.view_is, c.from.ensures, here) (taken_by-some (record { phase = c.self.inside.phase; posts = c.self.inside.posts; closed = c.self.inside.closed.items; taken = c.self.inside.taken.items }) c.args.t c.in-Some.vector next)
+    rw (← c.self.view_is, c.from.ensures, here) (after_take-some (record { phase = c.self.inside.phase; posts = c.self.inside.posts; closed = c.self.inside.closed.items; taken = c.self.inside.taken.items }) c.args.t c.in-Some.vector next)
 
 pub returns-clause-vector : goal.returns-clause-vector
 returns-clause-vector c =

@@ -28,33 +28,33 @@ one_request None = omega arith
 one_request (Some q) = omega arith
 
 -- a turn orders one request at most
-pub turn_le : (next : ℕ → Option Request) (posted : ℕ → Bool) (t : ℕ) → length (ordered_in next posted (t ∷ [])) ≤ 1
-turn_le next posted t = elim (cases_Bool (posted t)) [ inl holds ↦ rw holds (one_request (next t)) | inr fails ↦ rw fails (omega arith) ]
+pub ordered_le : (next : ℕ → Option Request) (posted : ℕ → Bool) (t : ℕ) → length (ordered_in next posted (t ∷ [])) ≤ 1
+ordered_le next posted t = elim (cases_Bool (posted t)) [ inl holds ↦ rw holds (one_request (next t)) | inr fails ↦ rw fails (omega arith) ]
 
-pub turns_le : (next : ℕ → Option Request) (posted : ℕ → Bool) (a c : ℕ) → length (ordered_in next posted (upwards a c)) ≤ c
-turns_le next posted a zero = omega arith
-turns_le next posted a (suc c) =
+pub all_ordered_le : (next : ℕ → Option Request) (posted : ℕ → Bool) (a c : ℕ) → length (ordered_in next posted (upwards a c)) ≤ c
+all_ordered_le next posted a zero = omega arith
+all_ordered_le next posted a (suc c) =
     let split = ap length (ordered_in-append next posted (a ∷ []) (upwards (a + 1) c)) in
-    omega (arith, split, length-append (ordered_in next posted (a ∷ [])) (ordered_in next posted (upwards (a + 1) c)), turn_le next posted a, turns_le next posted (a + 1) c)
+    omega (arith, split, length-append (ordered_in next posted (a ∷ [])) (ordered_in next posted (upwards (a + 1) c)), ordered_le next posted a, all_ordered_le next posted (a + 1) c)
 
-same_turn : (next other : ℕ → Option Request) (posted : ℕ → Bool) (t : ℕ) → next t ≡ other t → ordered_in next posted (t ∷ []) ≡ ordered_in other posted (t ∷ [])
-same_turn next other posted t same = elim (cases_Bool (posted t)) [ inl holds ↦ rw holds (ap (λ (o : Option Request). cons_option o []) same) | inr fails ↦ rw fails refl ]
+same_ordered : (next other : ℕ → Option Request) (posted : ℕ → Bool) (t : ℕ) → next t ≡ other t → ordered_in next posted (t ∷ []) ≡ ordered_in other posted (t ∷ [])
+same_ordered next other posted t same = elim (cases_Bool (posted t)) [ inl holds ↦ rw holds (ap (λ (o : Option Request). cons_option o []) same) | inr fails ↦ rw fails refl ]
 
-pub same_turns : (next other : ℕ → Option Request) (posted : ℕ → Bool) (a c : ℕ) → ((u : ℕ) → a ≤ u → u < a + c → next u ≡ other u) → ordered_in next posted (upwards a c) ≡ ordered_in other posted (upwards a c)
-same_turns next other posted a zero same = refl
-same_turns next other posted a (suc c) same =
+pub same_all_ordered : (next other : ℕ → Option Request) (posted : ℕ → Bool) (a c : ℕ) → ((u : ℕ) → a ≤ u → u < a + c → next u ≡ other u) → ordered_in next posted (upwards a c) ≡ ordered_in other posted (upwards a c)
+same_all_ordered next other posted a zero same = refl
+same_all_ordered next other posted a (suc c) same =
     ordered_in-append next posted (a ∷ []) (upwards (a + 1) c)
-    ∙ ap (λ (rest : List Request). ordered_in next posted (a ∷ []) ++ rest) (same_turns next other posted (a + 1) c (λ u low high. same u (omega arith) (omega arith)))
-    ∙ ap (λ (first : List Request). first ++ ordered_in other posted (upwards (a + 1) c)) (same_turn next other posted a (same a (omega arith) (omega arith)))
+    ∙ ap (λ (rest : List Request). ordered_in next posted (a ∷ []) ++ rest) (same_all_ordered next other posted (a + 1) c (λ u low high. same u (omega arith) (omega arith)))
+    ∙ ap (λ (first : List Request). first ++ ordered_in other posted (upwards (a + 1) c)) (same_ordered next other posted a (same a (omega arith) (omega arith)))
     ∙ sym (ordered_in-append other posted (a ∷ []) (upwards (a + 1) c))
 
 -- one turn more is done, and the others are as they were
-pub next_turn : (posted : ℕ → Bool) (lists new : List (Buffer Request)) (before after : List Request) (t to : ℕ) → t < to
+pub next_ordered : (posted : ℕ → Bool) (lists new : List (Buffer Request)) (before after : List Request) (t to : ℕ) → t < to
     → after ≡ before ++ ordered_in (lowest_of lists) posted (upwards t 1) → ((u : ℕ) → t < u → lowest_of new u ≡ lowest_of lists u)
     → after ++ ordered_in (lowest_of new) posted (upwards (t + 1) (to - (t + 1))) ≡ before ++ ordered_in (lowest_of lists) posted (upwards t (to - t))
-next_turn posted lists new before after t to inside is same =
+next_ordered posted lists new before after t to inside is same =
     let left : to - t ≡ suc (to - (t + 1)) = omega arith in
-    let rest = same_turns (lowest_of new) (lowest_of lists) posted (t + 1) (to - (t + 1)) (λ u low high. same u (omega arith)) in
+    let rest = same_all_ordered (lowest_of new) (lowest_of lists) posted (t + 1) (to - (t + 1)) (λ u low high. same u (omega arith)) in
     rw left (
     ap (λ (rs : List Request). rs ++ ordered_in (lowest_of new) posted (upwards (t + 1) (to - (t + 1)))) is
     ∙ ap (λ (rs : List Request). (before ++ ordered_in (lowest_of lists) posted (t ∷ [])) ++ rs) rest
@@ -64,7 +64,7 @@ next_turn posted lists new before after t to inside is same =
 
 -- ---- what is left
 
--- turns, and further ones behind them
+-- turns, and further ones after them
 pub LoseLowest-behind : (from t to tiles : ℕ) (a b c : List (Buffer Request)) → from ≤ t → t ≤ to → LoseLowest from t tiles a b → LoseLowest t to tiles b c → LoseLowest from to tiles a c
 LoseLowest-behind from t to tiles a b c low high first second = record {
   count = second.count ∙ first.count;
@@ -89,7 +89,7 @@ ordered_in_round n number set lists mid before middle after some first second lo
     let late = ordered_in (lowest_of lists) (has_tile set) (upwards (number % n) (n - number % n)) in
     let early = ordered_in (lowest_of lists) (has_tile set) (upwards 0 (number % n)) in
     let all : number % n - 0 ≡ number % n = omega arith in
-    let same = same_turns (lowest_of mid) (lowest_of lists) (has_tile set) 0 (number % n) (λ u low high. ap (λ (list : Buffer Request). slice_get list.items 0) (lose.outside u (inl (omega arith)))) in
+    let same = same_all_ordered (lowest_of mid) (lowest_of lists) (has_tile set) 0 (number % n) (λ u low high. ap (λ (list : Buffer Request). slice_get list.items 0) (lose.outside u (inl (omega arith)))) in
     second
     ∙ ap (λ (c : ℕ). middle ++ ordered_in (lowest_of mid) (has_tile set) (upwards 0 c)) all
     ∙ ap (λ (rs : List Request). middle ++ rs) same
@@ -104,8 +104,8 @@ source_of_other : (o : Option Request) (u t : ℕ) → u ≢ t → ((q : Request
 source_of_other None u t other from = refl
 source_of_other (Some q) u t other from = let away : (q.source == t) ≡ false = ne_eqb q.source t (λ same. other (sym (from q refl) ∙ same)) in rw away refl
 
-turn_of_other : (next : ℕ → Option Request) (posted : ℕ → Bool) (u t : ℕ) → u ≢ t → ((q : Request) → next u ≡ Some q → q.source ≡ u) → requests_of t (ordered_in next posted (u ∷ [])) ≡ []
-turn_of_other next posted u t other from = elim (cases_Bool (posted u)) [ inl holds ↦ rw holds (source_of_other (next u) u t other from) | inr fails ↦ rw fails refl ]
+ordered_of_other : (next : ℕ → Option Request) (posted : ℕ → Bool) (u t : ℕ) → u ≢ t → ((q : Request) → next u ≡ Some q → q.source ≡ u) → requests_of t (ordered_in next posted (u ∷ [])) ≡ []
+ordered_of_other next posted u t other from = elim (cases_Bool (posted u)) [ inl holds ↦ rw holds (source_of_other (next u) u t other from) | inr fails ↦ rw fails refl ]
 
 module _ (next : ℕ → Option Request) (posted : ℕ → Bool) (from : (u : ℕ) (q : Request) → next u ≡ Some q → q.source ≡ u) where
   pub requests_of-turns_away : (a c t : ℕ) → (t < a) ⊎ (a + c ≤ t) → requests_of t (ordered_in next posted (upwards a c)) ≡ []
@@ -114,7 +114,7 @@ module _ (next : ℕ → Option Request) (posted : ℕ → Bool) (from : (u : �
       let apart : a ≢ t = λ same. elim away [ inl below ↦ absurd (omega arith) | inr above ↦ absurd (omega arith) ] in
       ap (requests_of t) (ordered_in-append next posted (a ∷ []) (upwards (a + 1) c))
       ∙ requests_of-append t (ordered_in next posted (a ∷ [])) (ordered_in next posted (upwards (a + 1) c))
-      ∙ rw (turn_of_other next posted a t apart (from a)) (requests_of-turns_away (a + 1) c t (elim away [ inl below ↦ inl (omega arith) | inr above ↦ inr (omega arith) ]))
+      ∙ rw (ordered_of_other next posted a t apart (from a)) (requests_of-turns_away (a + 1) c t (elim away [ inl below ↦ inl (omega arith) | inr above ↦ inr (omega arith) ]))
 
   pub requests_of-turns_there : (a c t : ℕ) → a ≤ t → t < a + c → requests_of t (ordered_in next posted (upwards a c)) ≡ requests_of t (ordered_in next posted (t ∷ []))
   requests_of-turns_there a zero t low high = absurd (omega arith)
@@ -124,7 +124,7 @@ module _ (next : ℕ → Option Request) (posted : ℕ → Bool) (from : (u : �
       ∙ elim (cases_eq a t) [
         | inl here ↦
             rw (requests_of-turns_away (a + 1) c t (inl (omega arith))) (append-nil (requests_of t (ordered_in next posted (a ∷ []))) ∙ rw here refl)
-        | inr other ↦ rw (turn_of_other next posted a t other (from a)) (requests_of-turns_there (a + 1) c t (omega arith) (omega arith))
+        | inr other ↦ rw (ordered_of_other next posted a t other (from a)) (requests_of-turns_there (a + 1) c t (omega arith) (omega arith))
       ]
 
   -- in a round each tile has one turn
@@ -140,16 +140,16 @@ module _ (next : ℕ → Option Request) (posted : ℕ → Bool) (from : (u : �
       ]
 
 -- the turn of a tile that posted, and of one that did not
-pub turn_taken : (next : ℕ → Option Request) (posted : ℕ → Bool) (t : ℕ) (q : Request) → posted t ≡ true → next t ≡ Some q → q.source ≡ t → requests_of t (ordered_in next posted (t ∷ [])) ≡ q ∷ []
-turn_taken next posted t q holds is source = let own : (q.source == t) ≡ true = eq-eqb q.source t source in rw (holds, is, own) refl
+pub ordered_taken : (next : ℕ → Option Request) (posted : ℕ → Bool) (t : ℕ) (q : Request) → posted t ≡ true → next t ≡ Some q → q.source ≡ t → requests_of t (ordered_in next posted (t ∷ [])) ≡ q ∷ []
+ordered_taken next posted t q holds is source = let own : (q.source == t) ≡ true = eq-eqb q.source t source in rw (holds, is, own) refl
 
-pub turn_passed : (next : ℕ → Option Request) (posted : ℕ → Bool) (t : ℕ) → posted t ≡ false → requests_of t (ordered_in next posted (t ∷ [])) ≡ []
-turn_passed next posted t fails = rw fails refl
+pub ordered_passed : (next : ℕ → Option Request) (posted : ℕ → Bool) (t : ℕ) → posted t ≡ false → requests_of t (ordered_in next posted (t ∷ [])) ≡ []
+ordered_passed next posted t fails = rw fails refl
 
 -- ---- the sources of some turns
 
-source_of_turn : (next : ℕ → Option Request) (posted : ℕ → Bool) (t : ℕ) → (posted t ≡ true → (q : Request) × (next t ≡ Some q) × (q.source ≡ t)) → sources (ordered_in next posted (t ∷ [])) ≡ filter posted (t ∷ [])
-source_of_turn next posted t each = elim (cases_Bool (posted t)) [
+source_of_ordered : (next : ℕ → Option Request) (posted : ℕ → Bool) (t : ℕ) → (posted t ≡ true → (q : Request) × (next t ≡ Some q) × (q.source ≡ t)) → sources (ordered_in next posted (t ∷ [])) ≡ filter posted (t ∷ [])
+source_of_ordered next posted t each = elim (cases_Bool (posted t)) [
   | inl holds ↦ let turn = each holds in rw (holds, turn.1) (ap (λ (s : ℕ). s ∷ []) turn.2)
   | inr fails ↦ rw fails refl
 ]
@@ -161,10 +161,10 @@ sources-turns next posted a (suc c) each =
     ap sources (ordered_in-append next posted (a ∷ []) (upwards (a + 1) c))
     ∙ map-append (λ (q : Request). q.source) (ordered_in next posted (a ∷ [])) (ordered_in next posted (upwards (a + 1) c))
     ∙ ap (λ (rest : List ℕ). sources (ordered_in next posted (a ∷ [])) ++ rest) (sources-turns next posted (a + 1) c (λ t low high. each t (omega arith) (omega arith)))
-    ∙ ap (λ (first : List ℕ). first ++ filter posted (upwards (a + 1) c)) (source_of_turn next posted a (each a (omega arith) (omega arith)))
+    ∙ ap (λ (first : List ℕ). first ++ filter posted (upwards (a + 1) c)) (source_of_ordered next posted a (each a (omega arith) (omega arith)))
     ∙ sym (filter-append posted (a ∷ []) (upwards (a + 1) c))
 
--- where each tile that posted has a request, the sources are the tiles in the order of their turn
+-- where each tile that posted has a request, the sources are the tiles by the rotating priority
 pub sources-expansion : (n number set : ℕ) (next : ℕ → Option Request) → 0 < n → ((t : ℕ) → t < n → has_tile set t ≡ true → (q : Request) × (next t ≡ Some q) × (q.source ≡ t))
     → sources (filter_map next (expansion n number set)) ≡ expansion n number set
 sources-expansion n number set next some each =
@@ -184,8 +184,8 @@ same_expansion n number set next other some same =
     let late = upwards (number % n) (n - number % n) in
     let early = upwards 0 (number % n) in
     ordered_in-append next (has_tile set) late early
-    ∙ ap (λ (rs : List Request). rs ++ ordered_in next (has_tile set) early) (same_turns next other (has_tile set) (number % n) (n - number % n) (λ t low high. same t (omega arith)))
-    ∙ ap (λ (rs : List Request). ordered_in other (has_tile set) late ++ rs) (same_turns next other (has_tile set) 0 (number % n) (λ t low high. same t (omega arith)))
+    ∙ ap (λ (rs : List Request). rs ++ ordered_in next (has_tile set) early) (same_all_ordered next other (has_tile set) (number % n) (n - number % n) (λ t low high. same t (omega arith)))
+    ∙ ap (λ (rs : List Request). ordered_in other (has_tile set) late ++ rs) (same_all_ordered next other (has_tile set) 0 (number % n) (λ t low high. same t (omega arith)))
     ∙ sym (ordered_in-append other (has_tile set) late early)
 
 pub expansion_le : (n number set : ℕ) (next : ℕ → Option Request) → 0 < n → length (filter_map next (expansion n number set)) ≤ n
@@ -199,8 +199,8 @@ expansion_le n number set next some =
       first,
       split,
       length-append (ordered_in next (has_tile set) late) (ordered_in next (has_tile set) early),
-      turns_le next (has_tile set) (number % n) (n - number % n),
-      turns_le next (has_tile set) 0 (number % n),
+      all_ordered_le next (has_tile set) (number % n) (n - number % n),
+      all_ordered_le next (has_tile set) 0 (number % n),
     )
 
 -- a window orders one request of each tile at most
@@ -210,6 +210,6 @@ window_le next n k set some =
     let below : first < n = omega arith in
     let split = ap length (ordered_in-append next (has_tile set) (upwards first (n - first)) (upwards 0 first)) in
     let whole = length-append (ordered_in next (has_tile set) (upwards first (n - first))) (ordered_in next (has_tile set) (upwards 0 first)) in
-    let later = turns_le next (has_tile set) first (n - first) in
-    let earlier = turns_le next (has_tile set) 0 first in
+    let later = all_ordered_le next (has_tile set) first (n - first) in
+    let earlier = all_ordered_le next (has_tile set) 0 first in
     omega arith

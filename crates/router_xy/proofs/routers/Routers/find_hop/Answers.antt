@@ -5,7 +5,7 @@ use Rattle.chip_model.specs.Copies.{channels_of}
 use Rattle.mesh_gen.proofs.Beside.{neighbour_inside}
 use Rattle.router_xy.proofs.Steps.{seen_at, seen_entry, no_copy, not_owed, no_router, no_entry}
 use Rattle.router_xy.proofs.Sound.{normal_there}
-use Rattle.router_xy.proofs.routers.Routers.find_way.Goals as goal
+use Rattle.router_xy.proofs.routers.Routers.find_hop.Goals as goal
 
 pub returns-in_default-clause-none : goal.returns-in_default-clause-none
 returns-in_default-clause-none c = rw (← c.self.view_is) (no_copy _ _ _ _ _ _ _ (seen_at _ _ _ _ _ _ _ c.deref.ensures.value c.packet_at.ensures c.in_default.is))

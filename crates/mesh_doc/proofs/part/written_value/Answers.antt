@@ -2,7 +2,7 @@ use Rattle.std.proofs.Common.{◌≡◌, List, ℕ, option_map, subst}
 use Rattle.toml.specs.View.{view, members_view}
 use Rattle.toml.specs.Data.{get_member}
 use Rattle.toml.proofs.Views.{table_get}
-use Rattle.mesh_doc.proofs.part.written.Goals as goal
+use Rattle.mesh_doc.proofs.part.written_value.Goals as goal
 
 pub returns : goal.returns
 returns c =

@@ -5,7 +5,7 @@ use Rattle.std.specs.Vec.{vec_capacity}
 use Rattle.mesh_gen.specs.TileSet.{has_tile}
 use Rattle.order_tracker.specs.Order.{upwards}
 use Rattle.net_iface.specs.Unordered.{lowest_of, LoseLowest}
-use Rattle.net_iface.proofs.requests.take_turns.Given as goal
+use Rattle.net_iface.proofs.requests.order_by_priority.Given as goal
 
 abbrev pub invariant-loop-t : goal.invariant-loop-t
 invariant-loop-t l = record {

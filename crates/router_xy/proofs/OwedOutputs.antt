@@ -17,26 +17,26 @@ use Rattle.vc_bank.proofs.PlaceLaws.{one_or_apart, weigh_at, weigh_two, found}
 use Rattle.chip_model.specs.declared.net_copy.NetCopy.{NetCopy}
 use Rattle.chip_model.specs.Copies.{Name, is_named, name_of}
 use Rattle.chip_model.specs.CopiesOwed.{Owes, owing, CopiesFit, NoneAhead}
-use Rattle.router_xy.specs.RequestNetwork.{IsOneWay}
-use Rattle.router_xy.proofs.CopyWays.{ways_by, for_name, for_name-yes, for_name-no, name_is, some_is, owed_by}
+use Rattle.router_xy.specs.RequestNetwork.{IsOneOutput}
+use Rattle.router_xy.proofs.CopyOutputs.{outputs_by, for_name, for_name-yes, for_name-no, name_is, some_is, owed_by}
 
 -- ---- the ways of one copy
 counts : (owed serves : Bool) → owed ≡ true → serves ≡ true → count_if (owed && serves) ≡ 1
 counts owed serves is_owed is_served = rw (is_owed, is_served)
 
-way_counts : (g : Grid) (s r tile ports : ℕ) (out : Port) → has ports out ≡ true → covers g s r tile out ≡ true → 0 < ways_by g s r tile ports
-way_counts g s r tile ports L owed serves = omega (arith, counts _ _ owed serves)
-way_counts g s r tile ports E owed serves = omega (arith, counts _ _ owed serves)
-way_counts g s r tile ports W owed serves = omega (arith, counts _ _ owed serves)
-way_counts g s r tile ports N owed serves = omega (arith, counts _ _ owed serves)
-way_counts g s r tile ports S owed serves = omega (arith, counts _ _ owed serves)
+output_counts : (g : Grid) (s r tile ports : ℕ) (out : Port) → has ports out ≡ true → covers g s r tile out ≡ true → 0 < outputs_by g s r tile ports
+output_counts g s r tile ports L owed serves = omega (arith, counts _ _ owed serves)
+output_counts g s r tile ports E owed serves = omega (arith, counts _ _ owed serves)
+output_counts g s r tile ports W owed serves = omega (arith, counts _ _ owed serves)
+output_counts g s r tile ports N owed serves = omega (arith, counts _ _ owed serves)
+output_counts g s r tile ports S owed serves = omega (arith, counts _ _ owed serves)
 
 counted : (owed serves : Bool) → 0 < count_if (owed && serves) → (owed ≡ true) × (serves ≡ true)
 counted true true some = (refl, refl)
 counted true false some = absurd (omega arith)
 counted false serves some = absurd (omega arith)
 
-some_way : (g : Grid) (s r tile ports : ℕ) → 0 < ways_by g s r tile ports → (out : Port) × (has ports out ≡ true) × (covers g s r tile out ≡ true)
+some_way : (g : Grid) (s r tile ports : ℕ) → 0 < outputs_by g s r tile ports → (out : Port) × (has ports out ≡ true) × (covers g s r tile out ≡ true)
 some_way g s r tile ports some = pick _ _ _ _ _ (by L) (by E) (by W) (by N) (by S) some
   where
     by : (out : Port) → 0 < count_if (has ports out && covers g s r tile out) → (has ports out ≡ true) × (covers g s r tile out ≡ true)
@@ -61,8 +61,8 @@ owes_covers g net name tile some a = covers_from_leads g a.copy.request.source a
 
 owes_weighs : (g : Grid) (net : Network NetCopy) (name : Name) (tile : ℕ) → HasTiles g → (a : Owes g net name tile) → 0 < owed_by g name tile a.router a.port a.slot a.copy
 owes_weighs g net name tile some a =
-    let here = for_name-yes name a.copy.request (ways_by g a.copy.request.source a.router tile (bits_of a.copy.owed)) a.is_named in
-    let way = way_counts g a.copy.request.source a.router tile (bits_of a.copy.owed) a.out a.owed (owes_covers g net name tile some a) in
+    let here = for_name-yes name a.copy.request (outputs_by g a.copy.request.source a.router tile (bits_of a.copy.owed)) a.is_named in
+    let way = output_counts g a.copy.request.source a.router tile (bits_of a.copy.owed) a.out a.owed (owes_covers g net name tile some a) in
     omega arith
 
 owing-Owes : (g : Grid) (net : Network NetCopy) (name : Name) (tile : ℕ) → HasTiles g → Owes g net name tile → 0 < owing g net name tile
@@ -76,9 +76,9 @@ Owes-owing : (g : Grid) (net : Network NetCopy) (name : Name) (tile : ℕ) → C
 unfolding owing
 Owes-owing g net name tile fit reached some =
     let one = found (owed_by g name tile) net some in
-    let named = is_for_name name one.packet.request (ways_by g one.packet.request.source one.router tile (bits_of one.packet.owed)) one.weighs in
-    let same = for_name-yes name one.packet.request (ways_by g one.packet.request.source one.router tile (bits_of one.packet.owed)) named in
-    let weighs : 0 < ways_by g one.packet.request.source one.router tile (bits_of one.packet.owed) = let whole = one.weighs in omega arith in
+    let named = is_for_name name one.packet.request (outputs_by g one.packet.request.source one.router tile (bits_of one.packet.owed)) one.weighs in
+    let same = for_name-yes name one.packet.request (outputs_by g one.packet.request.source one.router tile (bits_of one.packet.owed)) named in
+    let weighs : 0 < outputs_by g one.packet.request.source one.router tile (bits_of one.packet.owed) = let whole = one.weighs in omega arith in
     let way = some_way g one.packet.request.source one.router tile (bits_of one.packet.owed) weighs in
     let inside = (fit.stand one.router one.port one.slot one.packet one.stands).inside in
     record {
@@ -116,8 +116,8 @@ one_channel g net name tile fit a b =
 abbrev pub ServesApart : Type 0
 ServesApart = (g : Grid) (s r v : ℕ) (p q : Port) → covers g s r v p ≡ true → covers g s r v q ≡ true → p ≡ q
 
-pub one_way : ServesApart → (g : Grid) (net : Network NetCopy) (name : Name) (tile : ℕ) → CopiesFit g net → (a b : Owes g net name tile) → IsOneWay g net name tile a b
-one_way apart g net name tile fit a b =
+pub one_output : ServesApart → (g : Grid) (net : Network NetCopy) (name : Name) (tile : ℕ) → CopiesFit g net → (a b : Owes g net name tile) → IsOneOutput g net name tile a b
+one_output apart g net name tile fit a b =
     let some = has_tiles g a.router (fit.stand a.router a.port a.slot a.copy a.stands).inside in
     let same = one_channel g net name tile fit a b in
     let copies = one_copy net a.router a.port a.slot b.router b.port b.slot a.copy b.copy same.0 same.1 same.2 a.stands b.stands in
