@@ -53,6 +53,21 @@ fn a_store_and_its_load(rt: HostRuntime) -> Result<(), Fail> {
 }
 
 #[test]
+fn an_address_wraps_in_one_line(rt: HostRuntime) -> Result<(), Fail> {
+    let document = one_tile(rt.alloc(), 0, "ld r1 r0 6\nhalt")?;
+    let load = Access {
+        number: 0,
+        kind: AccessKind::Load,
+        address: 2,
+        value: 0,
+        ..FIRST
+    };
+    let flat = check(rt.alloc(), &document, &[load], &[1])?;
+    assert_eq!(rt; flat.memory.as_slice(), [0, 0, 0, 0].as_slice());
+    Ok(())
+}
+
+#[test]
 fn an_add_and_a_swap(rt: HostRuntime) -> Result<(), Fail> {
     let document = one_tile(rt.alloc(), 10, "li r1 3\nfadd r1 r0 0\nswap r1 r0 0\nhalt")?;
     let add = Access {
