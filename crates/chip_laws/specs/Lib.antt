@@ -1,0 +1,6 @@
+pub mod DocFits
+pub mod EventSteps
+pub mod InOrderUnits
+pub mod Meetings
+pub mod ReadyUnits
+pub mod Parts
