@@ -3,6 +3,7 @@ use Rattle.std.proofs.Common.{◌≡◌, ℕ, Bool, true, false, cond, refl, sym
 use Rattle.std.specs.Prelude.{◌==◌, ◌&&◌, ◌||◌, not, is_some, if◌then◌else◌}
 use Rattle.std.specs.List.{list_any}
 use Rattle.std.proofs.lemmas.Bool.{false≢true, eq-eqb, eqb-true}
+use Rattle.std.proofs.lemmas.List.{append-nil}
 use Rattle.std.proofs.lemmas.List.Elements.{filter-append}
 use Rattle.std.proofs.lemmas.List.Folds.{list_any-append}
 use Rattle.mesh_gen.specs.declared.kind.Kind.{Kind}
@@ -170,15 +171,11 @@ others_more : (tile line : ℕ) (requests : List Request) (q : Request) (b : Boo
     → gets_of_others tile line (requests ++ q ∷ []) ≡ gets_of_others tile line requests ++ cond b (q ∷ []) []
 others_more tile line requests q b is = filter-append (counts tile line) requests (q ∷ []) ∙ ap (λ (c : Bool). gets_of_others tile line requests ++ cond c (q ∷ []) []) is
 
-nothing_more : {X : Type 0} (xs : List X) → xs ++ [] ≡ xs
-nothing_more [] = refl
-nothing_more {X} (x ∷ xs) = ap (λ (rest : List X). x ∷ rest) (nothing_more xs)
-
 -- a request that does not count leaves what follows
 pub follows_same : (tile : ℕ) (demand : Demand) (q : Request) (requests : List Request) → counts tile demand.line q ≡ false → Follows tile demand requests → Follows tile demand (requests ++ q ∷ [])
 follows_same tile demand q requests none is =
     let same : gets_of_others tile demand.line (requests ++ q ∷ []) ≡ gets_of_others tile demand.line requests =
-    others_more tile demand.line requests q false none ∙ nothing_more (gets_of_others tile demand.line requests) in
+    others_more tile demand.line requests q false none ∙ append-nil (gets_of_others tile demand.line requests) in
     record {
       once = λ kind. is.once kind ∙ ap (list_any (λ (r : Request). is_getm r.kind)) (sym same);
       list = λ kind. is.list kind ∙ ap (λ (rs : List Request). waiting_for (up_to_getm rs)) (sym same);

@@ -2,7 +2,7 @@
 use Rattle.std.proofs.Common.{◌≡◌, ℕ, ◌+◌, ◌*◌, ◌<◌, Bool, true, false, refl, sym, ◌∙◌, ap, subst, inl, inr, arith, Option, Some, None, List, [], length}
 use Rattle.std.specs.Prelude.{◌%◌, ◌==◌, not, ◌&&◌, ◌||◌, nat_lt, is_some, unwrap_or}
 use Rattle.std.proofs.lemmas.Bool.{cond_both, false≢true, not-true, or_parts, lt-ltb, ltb-true, eqb-true}
-use Rattle.std.proofs.lemmas.List.{nil_from_length}
+use Rattle.std.proofs.lemmas.List.{nil_from_length, length-set}
 use Rattle.std.proofs.lemmas.Option.{same_Some}
 use Rattle.mesh_gen.specs.declared.request.Request.{Request}
 use Rattle.mesh_gen.specs.declared.msg.Msg.{Msg}
@@ -27,8 +27,8 @@ use Rattle.chip_laws.proofs.StepAccesses.{Waits, free_of, StepGoesOn, delivered_
 -- ---- the units that they come to, as propositions
 
 -- an access of this kind reads only for an instruction that takes the word
-abbrev ReadsFor : Effect → AccessKind → Type 0
-ReadsFor effect kind = reads kind ≡ true → takes_word effect ≡ true
+abbrev ReadsFor : Effect → Pending → Type 0
+ReadsFor effect access = reads access.kind ≡ true → takes_word effect ≡ true
 
 pub record InOrderUnit (unit : UnitState) : Type 0 where
   pub lines : 0 < unit.node.chip.lines
@@ -49,7 +49,7 @@ reads_by effect demand false e is = absurd (false≢true is)
 
 waits_of : (effect : Effect) (entry : Option Demand) → reads_for effect entry ≡ true → Waits (ReadsFor effect) entry
 waits_of effect None e demand is = none_some demand is
-waits_of effect (Some demand) e other is = subst (λ (d : Demand). ReadsFor effect d.pending.kind) (same_Some demand other is) (reads_by effect demand (reads demand.pending.kind) e)
+waits_of effect (Some demand) e other is = subst (λ (d : Demand). ReadsFor effect d.pending) (same_Some demand other is) (reads_by effect demand (reads demand.pending.kind) e)
 
 reads_from : (effect : Effect) (r : Bool) → (r ≡ true → takes_word effect ≡ true) → (not r || takes_word effect) ≡ true
 reads_from effect true takes = takes refl
@@ -81,12 +81,13 @@ unit_from unit is =
 -- ---- the core goes on with an access
 pub record CoreGoesOn (core new : CoreState) : Type 0 where
   pub tile : new.tile ≡ core.tile
+  pub registers : length new.registers ≡ length core.registers
   pub steps : new.steps ≡ core.steps + 1
 
 receives_goes : (effect : Effect) (value : ℕ) (core : CoreState) → takes_word effect ≡ true → CoreGoesOn core (received effect value core)
-receives_goes (Loads register sum) word core takes = record { tile = refl; steps = refl }
-receives_goes (Swaps register sum value) word core takes = record { tile = refl; steps = refl }
-receives_goes (Adds register sum value) word core takes = record { tile = refl; steps = refl }
+receives_goes (Loads register sum) word core takes = record { tile = refl; registers = length-set core.registers register word; steps = refl }
+receives_goes (Swaps register sum value) word core takes = record { tile = refl; registers = length-set core.registers register word; steps = refl }
+receives_goes (Adds register sum value) word core takes = record { tile = refl; registers = length-set core.registers register word; steps = refl }
 receives_goes (Stores sum value) word core takes = absurd (false≢true takes)
 receives_goes (Becomes new) word core takes = absurd (false≢true takes)
 receives_goes Halts word core takes = absurd (false≢true takes)
@@ -95,11 +96,11 @@ loaded_goes : (program : List Instr) (value : ℕ) (core : CoreState) → takes_
 unfolding loaded
 loaded_goes program value core takes = receives_goes (effect_of (instr_at program core.place) core) value core takes
 
-access_core : (program : List Instr) (access : Access) (core : CoreState) → ReadsFor (effect_of (instr_at program core.place) core) access.kind → CoreGoesOn core (core_after program access core)
+pub access_core : (program : List Instr) (access : Access) (core : CoreState) → (reads access.kind ≡ true → takes_word (effect_of (instr_at program core.place) core) ≡ true) → CoreGoesOn core (core_after program access core)
 access_core program access core for =
     cond_both (reads access.kind) (loaded program (read_by access) core) (stored core) (CoreGoesOn core)
     (λ reads. loaded_goes program (read_by access) core (for reads))
-    (λ writes. record { tile = refl; steps = refl })
+    (λ writes. record { tile = refl; registers = refl; steps = refl })
 
 -- ---- a unit goes on with a step of its node
 pub record UnitGoesOn (unit : UnitState) (step : Performed) (acted : Acted) : Type 0 where
@@ -118,7 +119,8 @@ unit_goes unit node None is step = record {
 }
 unit_goes unit node (Some done) is step =
     let access = access_of unit done in
-    let goes = access_core unit.program access unit.core (step.goes.kind done refl) in
+    let was = step.goes.was done refl in
+    let goes = access_core unit.program access unit.core (λ read. was.is (sym (ap reads was.kind) ∙ read)) in
     let less : unit.core.steps < (core_after unit.program access unit.core).steps = omega (arith, goes.steps) in
     let after : UnitState = record unit { node = node; core = core_after unit.program access unit.core } in
     let none : node.side.misses.demand ≡ None = step.goes.alone done refl in
@@ -161,7 +163,7 @@ CoreLaw unit acted = (is_in_order acted.0 ≡ true) × Works unit acted
 below : (sum lines : ℕ) → 0 < lines → sum % (4 * lines) < 4 * lines
 below sum lines some = omega arith
 
-tried_law : (unit : UnitState) (kind : AccessKind) (sum value : ℕ) (acted : Acted) → InOrderUnit unit → ReadsFor (next_effect unit) kind → access_tried unit kind sum value ≡ Some acted → CoreLaw unit acted
+tried_law : (unit : UnitState) (kind : AccessKind) (sum value : ℕ) (acted : Acted) → InOrderUnit unit → (reads kind ≡ true → takes_word (next_effect unit) ≡ true) → access_tried unit kind sum value ≡ Some acted → CoreLaw unit acted
 tried_law unit kind sum value acted is for e =
     let access : Pending = record { kind = kind; address = address_in unit.node.chip sum; value = value } in
     option_map_some (performed unit) (node_after_access access unit.node) acted e (λ step tried same.
@@ -171,11 +173,11 @@ tried_law unit kind sum value acted is for e =
     ))
 
 -- an instruction that takes no access
-becomes_goes : (instr : Instr) (core new : CoreState) → effect_of instr core ≡ Becomes new → CoreGoesOn core new
-becomes_goes (Li rd n) core new e = grind arith
-becomes_goes (AddInstr rd ra rb) core new e = grind arith
-becomes_goes (Sub rd ra rb) core new e = grind arith
-becomes_goes (Addi rd ra n) core new e = grind arith
+pub becomes_goes : (instr : Instr) (core new : CoreState) → effect_of instr core ≡ Becomes new → CoreGoesOn core new
+becomes_goes (Li rd n) core new e = grind (arith, length-set {A = ℕ})
+becomes_goes (AddInstr rd ra rb) core new e = grind (arith, length-set {A = ℕ})
+becomes_goes (Sub rd ra rb) core new e = grind (arith, length-set {A = ℕ})
+becomes_goes (Addi rd ra n) core new e = grind (arith, length-set {A = ℕ})
 becomes_goes (Ld rd ra n) core new e = cc
 becomes_goes (St rs ra n) core new e = cc
 becomes_goes (SwapInstr rd ra n) core new e = cc
@@ -183,7 +185,7 @@ becomes_goes (Fadd rd ra n) core new e = cc
 becomes_goes (Beq ra rb target) core new e = grind arith
 becomes_goes (Bne ra rb target) core new e = grind arith
 becomes_goes (Jmp target) core new e = grind arith
-becomes_goes (Tid rd) core new e = grind arith
+becomes_goes (Tid rd) core new e = grind (arith, length-set {A = ℕ})
 becomes_goes Halt core new e = cc
 
 alone_law : (unit after : UnitState) → InOrderUnit after → SameUnit unit after → after.node ≡ unit.node → after.buffered ≡ unit.buffered → CoreLaw unit (after, None)

@@ -41,3 +41,9 @@ pub mod TimesSteps
 pub mod TimesEvents
 pub mod ProtocolWriters
 pub mod WholeSteps
+pub mod InOrderAlone
+pub mod DoneTimes
+pub mod InOrderCores
+pub mod InOrderEvents
+pub mod Opening
+pub mod Calls

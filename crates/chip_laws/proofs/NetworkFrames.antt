@@ -2,6 +2,7 @@
 use Rattle.std.proofs.Common.{◌≡◌, ◌≢◌, ℕ, ◌+◌, Bool, true, false, cond, refl, sym, ◌∙◌, ap, subst, inl, inr, arith, Some, List, [], ◌∷◌, ◌++◌, length, set, slice_get}
 use Rattle.std.specs.Prelude.{nat_lt}
 use Rattle.std.proofs.lemmas.Bool.{cases_eq}
+use Rattle.std.proofs.lemmas.List.{append-nil}
 use Rattle.std.proofs.lemmas.Option.{same_Some}
 use Rattle.mesh_gen.specs.declared.kind.Kind.{Kind}
 use Rattle.mesh_gen.specs.declared.port.Port.{Port}
@@ -34,15 +35,11 @@ pub record SameViews (old new : OrderedNetwork) : Type 0 where
   pub ordered : new.ordered ≡ old.ordered ++ more
   pub interfaces : (t : ℕ) (interface : Interface) → slice_get new.interfaces t ≡ Some interface → WasInterface old t interface
 
-nothing_more : {X : Type 0} (xs : List X) → xs ≡ xs ++ []
-nothing_more [] = refl
-nothing_more {X} (x ∷ xs) = ap (λ (rest : List X). x ∷ rest) (nothing_more xs)
-
 -- the same interfaces and the same order
 pub unchanged_views : (old new : OrderedNetwork) → new.ordered ≡ old.ordered → new.interfaces ≡ old.interfaces → SameViews old new
 unchanged_views old new ordered interfaces = record {
   more = [];
-  ordered = ordered ∙ nothing_more old.ordered;
+  ordered = ordered ∙ sym (append-nil old.ordered);
   interfaces = λ t interface at. record { was = interface; at = ap (λ (xs : List Interface). slice_get xs t) (sym interfaces) ∙ at; made = refl; delivered = refl };
 }
 
@@ -65,7 +62,7 @@ ticked_views chip net new e =
     })) where
       grown : (b : Bool) → (more : List Request) × (cond b (net.ordered ++ ordered_by_window chip net) net.ordered ≡ net.ordered ++ more)
       grown true = (ordered_by_window chip net, refl)
-      grown false = ([], nothing_more net.ordered)
+      grown false = ([], sym (append-nil net.ordered))
 
 taken_same : (net new : OrderedNetwork) (t : ℕ) → after_vector_take net t ≡ Some new → (new.ordered ≡ net.ordered) × (new.interfaces ≡ net.interfaces)
 unfolding after_vector_take
@@ -100,7 +97,7 @@ posted_views net new t e =
     let after : Interface = record is.0 { posted = is.0.posted + 1 } in
     record {
       more = [];
-      ordered = is.1.ordered ∙ nothing_more net.ordered;
+      ordered = is.1.ordered ∙ sym (append-nil net.ordered);
       interfaces = λ u interface at. elim (cases_eq u t) [
         | inl same ↦ (
             let here : after ≡ interface = same_Some after interface (sym (set_interface net new t is.0 after is.1) ∙ (ap (slice_get new.interfaces) (sym same) ∙ at)) in

@@ -24,10 +24,9 @@ use Rattle.chip_model.specs.NodeShape.{LinesFit}
 use Rattle.chip_model.specs.BehaviourLaws.{KeepsLaws, Works}
 use Rattle.chip_model.specs.ChipInvariant.{NodeHolds, ProtocolHolds}
 use Rattle.chip_laws.specs.DocFits.{DocFits}
-use Rattle.chip_laws.specs.Meetings.{DeliveriesFit, ArrivalsFit, NodesHold}
+use Rattle.chip_laws.specs.Meetings.{DeliveriesFit, ArrivalsFit, NodesHold, UnitsFit}
 use Rattle.chip_laws.specs.EventSteps.{ChangesUnit, CoreWorks, RequestEnters, RequestComes, MessageEnters, MessageComes, EventDoes}
 use Rattle.chip_laws.proofs.Options.{none_some, bind, when_some}
-use Rattle.chip_laws.specs.Parts.{UnitsFit}
 use Rattle.chip_laws.proofs.UnitFrames.{each_unit}
 use Rattle.chip_laws.proofs.NetworkFrames.{SetsInterface, SameViews, unchanged_views, set_interface, other_interface, ticked_views, taken_views, hopped_views, posted_views, injected_sets, delivered_sets}
 use Rattle.chip_laws.proofs.RequestsInside.{request_inside, sends_fit, waiters_inside}

@@ -117,10 +117,10 @@ memory_sends chip q r GetS is = supplies_fits chip q r.words is
 memory_sends chip q r GetM is = supplies_fits chip q r.words is
 memory_sends chip q r PutM is = _
 
-behind_sends : (chip : Chip) (q : Request) (r : LineRecord) (kind : Kind) → AllFit chip (awaiting_write_back q r kind).sends
-behind_sends chip q r GetS = _
-behind_sends chip q r GetM = _
-behind_sends chip q r PutM = _
+waiting_sends : (chip : Chip) (q : Request) (r : LineRecord) (kind : Kind) → AllFit chip (awaiting_write_back q r kind).sends
+waiting_sends chip q r GetS = _
+waiting_sends chip q r GetM = _
+waiting_sends chip q r PutM = _
 
 tile_sends : (chip : Chip) (q : Request) (r : LineRecord) (tile : ℕ) (kind : Kind) → AllFit chip (owned_by_tile q r tile kind).sends
 tile_sends chip q r tile GetS = _
@@ -130,7 +130,7 @@ tile_sends chip q r tile PutM = _
 answer_sends : (chip : Chip) (q : Request) (r : LineRecord) (owner : Owner) → RequestInside chip q → AllFit chip (answered_by q r owner).sends
 answer_sends chip q r Memory is =
     cond_both r.fresh (from_memory q r q.kind) (awaiting_write_back q r q.kind) (λ (answer : Answer). AllFit chip answer.sends)
-    (λ fresh. memory_sends chip q r q.kind is) (λ waits. behind_sends chip q r q.kind)
+    (λ fresh. memory_sends chip q r q.kind is) (λ waits. waiting_sends chip q r q.kind)
 answer_sends chip q r (Tile tile) is = tile_sends chip q r tile q.kind
 
 record_sends : (chip : Chip) (q : Request) (records : Records) (entry : Option LineRecord) → RequestInside chip q → AllFit chip (answered_at q records entry).sends

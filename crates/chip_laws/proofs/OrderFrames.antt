@@ -1,5 +1,5 @@
 -- What holds of each node against the order goes on holding over every event, where each step of a node keeps it.
-use Rattle.std.proofs.Common.{◌≡◌, ◌≢◌, ℕ, zero, suc, ◌*◌, ◌<◌, ◌≤◌, Some, List, [], ◌∷◌, ◌++◌, length, slice_get, refl, sym, ap, ◌∙◌, subst, arith, inl, inr}
+use Rattle.std.proofs.Common.{◌≡◌, ℕ, zero, suc, ◌<◌, ◌≤◌, Some, List, [], ◌∷◌, ◌++◌, length, slice_get, refl, sym, ap, subst, arith, inl, inr}
 use Rattle.std.proofs.lemmas.List.{append-nil}
 use Rattle.std.proofs.lemmas.Option.{slice_get_within}
 use Rattle.mesh_gen.specs.declared.msg.Msg.{Msg}
@@ -8,7 +8,7 @@ use Rattle.report_text.specs.declared.event.Event.{Event}
 use Rattle.report_text.specs.declared.event.Event.TheVariants.{Tick, Core, Inject, Post, Take, Eject, Send, Hop, DataHop, DataEject}
 use Rattle.doc_text.specs.Doc.{Doc}
 use Rattle.chip_model.specs.declared.pending.Pending.{Pending}
-use Rattle.chip_model.specs.Chip.{Chip, chip_of, tile_count}
+use Rattle.chip_model.specs.Chip.{Chip}
 use Rattle.chip_model.specs.OrderedNetwork.{OrderedNetwork, Interface, after_delivery}
 use Rattle.chip_model.specs.Misses.{Demand}
 use Rattle.chip_model.specs.Node.{Node, Performed, node_after_access, node_after_request, node_after_message, after_request_sent, after_message_sent}
@@ -22,7 +22,7 @@ use Rattle.chip_model.specs.ChipInvariant.{UnitHolds, ProtocolHolds}
 use Rattle.chip_model.specs.BehaviourLaws.{KeepsLaws, Works}
 use Rattle.snoop_core.specs.Requests.{OwnRequestFits}
 use Rattle.chip_laws.specs.EventSteps.{ChangesUnit, EventDoes}
-use Rattle.chip_laws.specs.Parts.{UnitsFit}
+use Rattle.chip_laws.specs.Meetings.{UnitsFit}
 use Rattle.chip_laws.proofs.UnitFrames.{each_unit, same_units}
 use Rattle.chip_laws.proofs.OrderGrows.{Grows, order_grows, injected_order, delivered_order}
 

@@ -1,6 +1,6 @@
 -- The order of requests only grows: no event but a tick changes it, and a tick puts requests at its end.
-use Rattle.std.proofs.Common.{◌≡◌, ℕ, ◌+◌, Bool, true, false, cond, Option, Some, None, List, [], ◌∷◌, ◌++◌, length, slice_get, refl, sym, ◌∙◌, ap}
-use Rattle.std.specs.Prelude.{nat_lt, if◌then◌else◌}
+use Rattle.std.proofs.Common.{◌≡◌, ℕ, Bool, true, false, cond, Some, List, [], ◌++◌, length, slice_get, refl, sym, ◌∙◌, ap}
+use Rattle.std.specs.Prelude.{nat_lt}
 use Rattle.std.proofs.lemmas.Option.{same_Some}
 use Rattle.std.proofs.lemmas.List.{append-nil}
 use Rattle.mesh_gen.specs.declared.kind.Kind.{Kind}
@@ -8,11 +8,10 @@ use Rattle.mesh_gen.specs.declared.port.Port.{Port}
 use Rattle.mesh_gen.specs.declared.request.Request.{Request}
 use Rattle.report_text.specs.declared.event.Event.{Event}
 use Rattle.report_text.specs.declared.event.Event.TheVariants.{Tick, Core, Inject, Post, Take, Eject, Send, Hop, DataHop, DataEject}
-use Rattle.chip_model.specs.Partial.{when, ◌>>=◌}
 use Rattle.chip_model.specs.Chip.{Chip}
-use Rattle.chip_model.specs.Windows.{Windows, after_post, after_tick, is_last_tick, after_take}
+use Rattle.chip_model.specs.Windows.{after_post, after_tick, is_last_tick, after_take}
 use Rattle.chip_model.specs.Copies.{after_entry, after_hop, after_serve}
-use Rattle.chip_model.specs.OrderedNetwork.{OrderedNetwork, Interface, with_interface, next_request, after_inject, after_request_post, ordered_by_window, after_network_tick, after_vector_take, expected_at, expected_at_next_hop, after_copy_hop, after_delivery}
+use Rattle.chip_model.specs.OrderedNetwork.{OrderedNetwork, next_request, after_inject, after_request_post, ordered_by_window, after_network_tick, after_vector_take, expected_at, expected_at_next_hop, after_copy_hop, after_delivery}
 use Rattle.chip_model.specs.Units.{Behaviour}
 use Rattle.chip_model.specs.ChipState.{ChipState}
 use Rattle.chip_laws.specs.EventSteps.{EventDoes}

@@ -1,32 +1,29 @@
 -- What a chip's nodes own and may write, and the times of its accesses: at the opening, and after every event.
-use Rattle.std.proofs.Common.{◌≡◌, ℕ, zero, suc, ◌<◌, ◌≤◌, true, refl, sym, ◌∙◌, ap, subst, arith, inl, inr, Option, Some, None, List, [], ◌∷◌, map, length, slice_get}
-use Rattle.std.proofs.lemmas.Option.{same_Some, slice_get_within}
+use Rattle.std.proofs.Common.{◌≡◌, ℕ, zero, suc, sym, ◌∙◌, subst, Some, List, [], ◌∷◌, map, slice_get}
+use Rattle.std.proofs.lemmas.Option.{same_Some}
 use Rattle.mesh_gen.specs.declared.request.Request.{Request}
 use Rattle.order_tracker.specs.Order.{upwards}
-use Rattle.report_text.specs.declared.access.Access.{Access}
 use Rattle.report_text.specs.declared.event.Event.{Event}
-use Rattle.report_text.specs.declared.event.Event.TheVariants.{Tick, Core, Inject, Post, Take, Eject, Send, Hop, DataHop, DataEject}
 use Rattle.doc_text.specs.Doc.{Doc}
 use Rattle.chip_model.specs.Chip.{Chip, chip_of, tile_count}
-use Rattle.chip_model.specs.Cache.{Held, lookup, empty_cache}
-use Rattle.chip_model.specs.Node.{Node, opening_node}
+use Rattle.chip_model.specs.Node.{opening_node}
 use Rattle.chip_model.specs.Units.{UnitState, Behaviour, opening_unit}
 use Rattle.chip_model.specs.ChipState.{ChipState, program_of, opening}
 use Rattle.chip_model.specs.Events.{step}
 use Rattle.chip_model.specs.BehaviourLaws.{KeepsLaws}
 use Rattle.chip_model.specs.Ownership.{OwnsByOrder}
-use Rattle.chip_model.specs.Writers.{WritersFit, IsTimely}
+use Rattle.chip_model.specs.Writers.{WritersFit}
 use Rattle.chip_model.specs.ChipInvariant.{ProtocolHolds}
 use Rattle.snoop_core.proofs.ByOrder.{OwnsByOrder-opening_node}
 use Rattle.snoop_core.proofs.Opened.{lookup-empty}
-use Rattle.chip_laws.specs.EventSteps.{EventDoes}
-use Rattle.chip_laws.specs.Parts.{UnitsFit, WritersHold}
+use Rattle.chip_laws.specs.Meetings.{UnitsFit}
+use Rattle.chip_laws.specs.Parts.{WritersHold}
 use Rattle.chip_laws.specs.ReadyUnits.{WorksWhileNoneWaits}
 use Rattle.chip_laws.proofs.Options.{none_some}
 use Rattle.chip_laws.proofs.EventSteps.{event_does}
-use Rattle.chip_laws.proofs.OrderFrames.{DeliversNext, AllKnown, known_of, holds_at}
+use Rattle.chip_laws.proofs.OrderFrames.{DeliversNext, known_of, holds_at}
 use Rattle.chip_laws.proofs.WriterEvents.{owns_by_event, writers_by_event}
-use Rattle.chip_laws.proofs.TimesEvents.{TilesAgree, Performers, timely_by_event, performers_by_event}
+use Rattle.chip_laws.proofs.TimesEvents.{TilesAgree, timely_by_event, performers_by_event}
 
 tiles_of : (d : Doc) (s : ChipState) → ProtocolHolds d s → TilesAgree s
 tiles_of d s holds t unit at = (holds_at d s holds t unit at).holds.node.agrees.tile

@@ -86,7 +86,7 @@ waiting_after d ordered p place below all =
     waiting_inside (tile_count (chip_of d)) (up_to_getm (filter p (between place below ordered)))
     (each_up_to_getm inside (filter p (between place below ordered)) (each_filter inside p (between place below ordered) (each_between inside place below ordered all)))
 
--- ---- who waits for a demand
+-- ---- who waits for the words of a demand
 nobody : (chip : Chip) (list : List Waiting) → list ≡ [] → AreInside chip list
 nobody chip list none = subst (AreInside chip) (sym none) _
 
@@ -110,9 +110,9 @@ sends_fit d s node fits holds chip is followed = record {
 }
 
 -- ---- who waits at a home
-behind_inside : (d : Doc) (s : ChipState) (node : Node) (line : ℕ) (place : Option ℕ) → Sources d s.network.ordered → AreInside (chip_of d) (waiters_after s node line place)
-behind_inside d s node line None all = _
-behind_inside d s node line (Some place) all = by (has_reached_memory s line place) where
+waiters_after_inside : (d : Doc) (s : ChipState) (node : Node) (line : ℕ) (place : Option ℕ) → Sources d s.network.ordered → AreInside (chip_of d) (waiters_after s node line place)
+waiters_after_inside d s node line None all = _
+waiters_after_inside d s node line (Some place) all = by (has_reached_memory s line place) where
   by : (home : Bool) → AreInside (chip_of d)
       (cond {A = List Waiting} home [] (waiting_for (up_to_getm (filter (λ (q : Request). is_get q.kind && (q.line == line)) (between place node.delivered s.network.ordered)))))
   by true = _
@@ -123,4 +123,4 @@ pub waiters_inside : (d : Doc) (s : ChipState) (node : Node) (line : ℕ) (r : L
 waiters_inside d s node line r fits holds waiters at = subst (AreInside (chip_of d)) (sym (waiters line r at)) (by r.fresh) where
   by : (fresh : Bool) → AreInside (chip_of d) (cond {A = List Waiting} fresh [] (waiters_after s node line (last_written_back line (delivered_to s.network.ordered node))))
   by true = _
-  by false = behind_inside d s node line (last_written_back line (delivered_to s.network.ordered node)) (sources_inside d s fits holds)
+  by false = waiters_after_inside d s node line (last_written_back line (delivered_to s.network.ordered node)) (sources_inside d s fits holds)

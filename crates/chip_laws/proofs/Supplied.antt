@@ -1,47 +1,32 @@
 -- Each get that is ordered and not complete is answered from exactly one place: every kind of event keeps that.
-use Rattle.std.proofs.Common.{◌≡◌, ◌≢◌, ℕ, ◌+◌, ◌≤◌, ◌<◌, Bool, true, false, cond, List, [], ◌∷◌, ◌++◌, length, set, drop, refl, sym, ◌∙◌, ap, subst, arith, inl, inr, Option, Some, None}
-use Rattle.std.specs.Prelude.{◌==◌, ◌&&◌, not, is_some, slice_get, slice_index_or}
+use Rattle.std.proofs.Common.{◌≡◌, ℕ, ◌+◌, ◌≤◌, List, ◌++◌, length, drop, refl, sym, ◌∙◌, ap, subst, arith, Some}
+use Rattle.std.specs.Prelude.{slice_get}
 use Rattle.std.specs.List.{sum_by, count_by}
-use Rattle.std.proofs.lemmas.Bool.{cases_eq, eqb-true, eq-eqb, ne_eqb}
 use Rattle.std.proofs.lemmas.List.{drop-append-le}
-use Rattle.std.proofs.lemmas.Option.{same_Some}
 use Rattle.mesh_gen.specs.declared.request.Request.{Request}
 use Rattle.mesh_gen.specs.declared.msg.Msg.{Msg}
-use Rattle.mesh_gen.specs.declared.msg_kind.MsgKind.{MsgKind}
-use Rattle.mesh_gen.specs.declared.msg_kind.MsgKind.TheVariants.{Data, Back}
 use Rattle.mesh_gen.specs.declared.port.Port.{Port}
 use Rattle.mesh_gen.specs.Routes.{HasTiles}
-use Rattle.mesh_gen.specs.Ports.{count_if, port_number}
-use Rattle.order_tracker.specs.Order.{upwards}
+use Rattle.mesh_gen.specs.Ports.{count_if}
 use Rattle.vc_bank.specs.Places.{Network}
-use Rattle.chip_model.specs.Chip.{Chip, home}
-use Rattle.chip_model.specs.Misses.{Demand}
-use Rattle.chip_model.specs.Snoop.{after_data}
-use Rattle.chip_model.specs.OrderedNetwork.{OrderedNetwork, Interface}
-use Rattle.chip_model.specs.Replies.{after_data_hop, after_send, after_data_eject}
-use Rattle.chip_model.specs.Node.{Node, Performed, node_after_access, arrived_as, node_after_message, node_after_request, after_request_sent, after_message_sent}
+use Rattle.chip_model.specs.Chip.{Chip}
+use Rattle.chip_model.specs.OrderedNetwork.{OrderedNetwork}
+use Rattle.chip_model.specs.Replies.{after_data_hop, after_send}
+use Rattle.chip_model.specs.Node.{Node, after_message_sent}
 use Rattle.chip_model.specs.Units.{UnitState}
 use Rattle.chip_model.specs.ChipState.{ChipState}
-use Rattle.chip_model.specs.Ownership.{owner, owns, delivered_to, OwnsByOrder}
-use Rattle.chip_model.specs.NodeShape.{IsCache, SideFits, NodeFits}
-use Rattle.chip_model.specs.NetworkFits.{InterfaceAgrees}
-use Rattle.chip_model.specs.Bookkeeping.{is_get, is_get_of, TileAgrees}
-use Rattle.chip_model.specs.Suppliers.{supplier, count_of, delivered_at, is_data_for, promised_by, data_in_channels, is_to_come, answers_to_come, has_early, is_ordered, IsSupplied}
-use Rattle.reply_net.proofs.Accounts.{Nearer, total-after_send, total-after_data_hop, received_is}
-use Rattle.reply_net.proofs.Steps.{total-take}
-use Rattle.snoop_core.specs.Requests.{OwnRequestFits}
+use Rattle.chip_model.specs.Bookkeeping.{is_get_of}
+use Rattle.chip_model.specs.Suppliers.{count_of, delivered_at, is_data_for, promised_by, data_in_channels, answers_to_come, IsSupplied}
+use Rattle.reply_net.proofs.Accounts.{Nearer, total-after_send, total-after_data_hop}
 use Rattle.chip_laws.specs.EventSteps.{ChangesUnit}
 use Rattle.chip_laws.proofs.UnitFrames.{each_unit, same_units}
-use Rattle.chip_laws.proofs.OrderLists.{drop_next}
-use Rattle.chip_laws.proofs.SupplyCounts.{count_by-cons, count_by-append}
+use Rattle.chip_laws.proofs.SupplyCounts.{count_by-append}
 use Rattle.chip_laws.proofs.SupplySends.{SameOpen}
-use Rattle.chip_laws.proofs.SupplyAccounts.{SameSupply, accessed_supply, asked_supply, sent_promises, promised, data_account, OwnAccount, is_from_memory}
-use Rattle.chip_laws.proofs.SupplyToCome.{to_come, to_come_is, to_come_same, to_come_delivered, to_come_grown, supplies_at}
-use Rattle.chip_laws.proofs.SupplyBounds.{one_open}
-use Rattle.chip_laws.proofs.SupplyDeliveries.{delivered_promises, supplier_here, delivered_open, delivered_account, arrived_promises}
-use Rattle.chip_laws.proofs.SupplyFrames.{EachIsSupplied, count_here, one_more, promises_changed, answers_changed, answers_same, still_supplied}
+use Rattle.chip_laws.proofs.SupplyAccounts.{SameSupply, sent_promises, promised}
+use Rattle.chip_laws.proofs.SupplyToCome.{to_come, to_come_is, to_come_same, to_come_grown}
+use Rattle.chip_laws.proofs.SupplyFrames.{EachIsSupplied, answers_changed, answers_same, still_supplied}
 
-same_channels : (s new : ChipState) (t : ℕ) → new.replies ≡ s.replies → data_in_channels new t ≡ data_in_channels s t
+pub same_channels : (s new : ChipState) (t : ℕ) → new.replies ≡ s.replies → data_in_channels new t ≡ data_in_channels s t
 same_channels s new t same = ap (λ (net : Network Msg). data_in_channels (record s { replies = net }) t) same
 
 -- ---- no unit changes, and neither do the order and what stands in channels

@@ -1,8 +1,8 @@
 -- Each get is answered from exactly one place: a request that is delivered and a message that comes keep that.
-use Rattle.std.proofs.Common.{◌≡◌, ◌≢◌, ℕ, ◌+◌, ◌≤◌, ◌<◌, Bool, true, false, cond, List, [], ◌∷◌, length, set, drop, take, refl, sym, ◌∙◌, ap, subst, arith, inl, inr, Option, Some, None}
-use Rattle.std.specs.Prelude.{◌==◌, ◌&&◌, not, is_some, slice_get, slice_index_or}
-use Rattle.std.specs.List.{sum_by, count_by}
-use Rattle.std.proofs.lemmas.Bool.{cases_eq, eqb-true, eq-eqb, ne_eqb}
+use Rattle.std.proofs.Common.{◌≡◌, ◌≢◌, ℕ, ◌+◌, ◌≤◌, ◌<◌, Bool, true, false, cond, List, drop, refl, sym, ◌∙◌, ap, subst, arith, Option, Some, None}
+use Rattle.std.specs.Prelude.{◌==◌, ◌&&◌, not, is_some, slice_get}
+use Rattle.std.specs.List.{count_by}
+use Rattle.std.proofs.lemmas.Bool.{eqb-true, eq-eqb, ne_eqb}
 use Rattle.mesh_gen.specs.declared.request.Request.{Request}
 use Rattle.mesh_gen.specs.declared.msg.Msg.{Msg}
 use Rattle.mesh_gen.specs.declared.msg_kind.MsgKind.{MsgKind}
@@ -12,16 +12,13 @@ use Rattle.mesh_gen.specs.Ports.{count_if, port_number}
 use Rattle.vc_bank.specs.Places.{Network, put}
 use Rattle.chip_model.specs.Chip.{Chip}
 use Rattle.chip_model.specs.Misses.{Demand}
-use Rattle.chip_model.specs.OrderedNetwork.{OrderedNetwork, Interface}
 use Rattle.chip_model.specs.Replies.{after_data_eject}
-use Rattle.chip_model.specs.Snoop.{after_data}
 use Rattle.chip_model.specs.Node.{Node, is_back, arrived_as, node_after_message, node_after_request}
 use Rattle.chip_model.specs.Units.{UnitState}
 use Rattle.chip_model.specs.ChipState.{ChipState}
-use Rattle.chip_model.specs.Ownership.{owner, owns, OwnsByOrder}
-use Rattle.chip_model.specs.NodeShape.{SideFits, NodeFits}
-use Rattle.chip_model.specs.NetworkFits.{InterfaceAgrees}
-use Rattle.chip_model.specs.Bookkeeping.{is_get, is_get_of, TileAgrees}
+use Rattle.chip_model.specs.Ownership.{owns, OwnsByOrder}
+use Rattle.chip_model.specs.NodeShape.{NodeFits}
+use Rattle.chip_model.specs.Bookkeeping.{is_get, is_get_of}
 use Rattle.chip_model.specs.Suppliers.{delivered_at, is_data_for, data_in_channels, answers_to_come, has_early, is_ordered, IsSupplied}
 use Rattle.reply_net.proofs.Accounts.{received_is}
 use Rattle.reply_net.proofs.Steps.{total-take}
@@ -31,10 +28,11 @@ use Rattle.chip_laws.proofs.UnitFrames.{each_unit}
 use Rattle.chip_laws.proofs.OrderLists.{drop_next}
 use Rattle.chip_laws.proofs.SupplyCounts.{count_by-cons}
 use Rattle.chip_laws.proofs.SupplySends.{SameOpen}
-use Rattle.chip_laws.proofs.SupplyAccounts.{promised, data_account, OwnAccount, is_from_memory}
+use Rattle.chip_laws.proofs.SupplyAccounts.{promised, data_account}
 use Rattle.chip_laws.proofs.SupplyToCome.{to_come, to_come_is, to_come_delivered, supplies_at}
 use Rattle.chip_laws.proofs.SupplyDeliveries.{delivered_promises, supplier_here, delivered_open, delivered_account, arrived_promises}
 use Rattle.chip_laws.proofs.SupplyFrames.{EachIsSupplied, count_here, one_more, promises_changed, answers_changed, still_supplied}
+use Rattle.chip_laws.proofs.Supplied.{same_channels}
 
 -- what is known of a tile whose gets are counted: at most one of them is ordered and not complete
 abbrev pub OneOpen : List Request → ℕ → Node → Type 0
@@ -54,9 +52,6 @@ pub record Delivers (chip : Chip) (ordered : List Request) (t : ℕ) (node : Nod
 -- the promise that the node made itself
 abbrev own_promise : ℕ → Node → Request → ℕ
 own_promise t node q = cond (q.source == node.tile) (cond (owns node.chip node.side q.line) (count_if (is_get_of t q)) 0) 0
-
-same_channels : (s new : ChipState) (t : ℕ) → new.replies ≡ s.replies → data_in_channels new t ≡ data_in_channels s t
-same_channels s new t same = ap (λ (net : Network Msg). data_in_channels (record s { replies = net }) t) same
 
 -- all that is to answer a tile's gets: one less, where the tile itself has the words
 delivered_answers : (chip : Chip) (s new : ChipState) (t u : ℕ) (unit after : UnitState) (q : Request) → ChangesUnit s new u unit after → after.node ≡ (node_after_request q unit.node).0

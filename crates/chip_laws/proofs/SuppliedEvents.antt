@@ -1,5 +1,5 @@
 -- Every event keeps that each get that is ordered and not complete is answered from exactly one place: the table by kind.
-use Rattle.std.proofs.Common.{◌≡◌, ℕ, zero, suc, ◌+◌, ◌<◌, ◌≤◌, List, [], ◌∷◌, ◌++◌, length, refl, sym, ◌∙◌, ap, subst, arith, inl, inr, Option, Some, None}
+use Rattle.std.proofs.Common.{◌≡◌, ℕ, ◌<◌, ◌≤◌, List, ◌++◌, length, refl, sym, ap, subst, arith, inl, inr, Option, Some, None}
 use Rattle.std.specs.Prelude.{slice_get}
 use Rattle.std.proofs.lemmas.Option.{slice_get_within}
 use Rattle.mesh_gen.specs.declared.request.Request.{Request}
@@ -9,28 +9,23 @@ use Rattle.report_text.specs.declared.event.Event.TheVariants.{Tick, Core, Injec
 use Rattle.doc_text.specs.Doc.{Doc}
 use Rattle.chip_model.specs.Chip.{Chip, chip_of}
 use Rattle.chip_model.specs.OrderedNetwork.{OrderedNetwork, Interface}
-use Rattle.chip_model.specs.Node.{Node, after_request_sent, after_message_sent}
+use Rattle.chip_model.specs.Node.{after_request_sent, after_message_sent}
 use Rattle.chip_model.specs.Units.{UnitState, Acted, Behaviour}
 use Rattle.chip_model.specs.ChipState.{ChipState}
 use Rattle.chip_model.specs.BehaviourLaws.{KeepsLaws, Works}
 use Rattle.chip_model.specs.NodeShape.{IsCache}
-use Rattle.chip_model.specs.ChipInvariant.{NodeHolds, UnitHolds, ProtocolHolds}
+use Rattle.chip_model.specs.ChipInvariant.{UnitHolds, ProtocolHolds}
 use Rattle.chip_model.specs.Suppliers.{count_of, delivered_at}
+use Rattle.net_iface.proofs.Places.{item_at}
 use Rattle.reply_net.proofs.Accounts.{Nearer}
-use Rattle.chip_laws.specs.EventSteps.{ChangesUnit, EventDoes, ChangesNetwork}
-use Rattle.chip_laws.proofs.Options.{none_some}
-use Rattle.chip_laws.specs.Parts.{UnitsFit}
+use Rattle.chip_laws.specs.EventSteps.{EventDoes, ChangesNetwork}
+use Rattle.chip_laws.specs.Meetings.{UnitsFit}
 use Rattle.chip_laws.proofs.TileAgreements.{keeps_of, own_request_fits}
 use Rattle.chip_laws.proofs.SupplyAccounts.{SameSupply, accessed_supply, asked_supply}
 use Rattle.chip_laws.proofs.SupplyBounds.{one_open}
 use Rattle.chip_laws.proofs.SupplyFrames.{EachIsSupplied}
 use Rattle.chip_laws.proofs.Supplied.{supplied_hop, supplied_grown, supplied_quiet, supplied_sent}
 use Rattle.chip_laws.proofs.SuppliedComes.{Delivers, Comes, supplied_delivered, supplied_comes}
-
-some_at : {X : Type 0} (xs : List X) (k : ℕ) → k < length xs → (x : X) × (slice_get xs k ≡ Some x)
-some_at [] k within = absurd (omega (arith, within))
-some_at (x ∷ xs) zero within = (x, refl)
-some_at (x ∷ xs) (suc k) within = some_at xs k (omega (arith, within))
 
 -- the interface of each unit's tile, and what holds of both
 pub record Holds (d : Doc) (s : ChipState) (t : ℕ) (unit : UnitState) : Type 0 where
@@ -41,8 +36,8 @@ pub record Holds (d : Doc) (s : ChipState) (t : ℕ) (unit : UnitState) : Type 0
 pub unit_holds : (d : Doc) (s : ChipState) (t : ℕ) (unit : UnitState) → ProtocolHolds d s → slice_get s.units t ≡ Some unit → Holds d s t unit
 unit_holds d s t unit holds at =
     let within = slice_get_within s.units t unit at in
-    let interface = some_at s.network.interfaces t (omega (arith, within, holds.units, holds.network.requests.interfaces)) in
-    record { interface = interface.0; at = interface.1; holds = holds.tiles t interface.0 unit interface.1 at }
+    let interface = item_at s.network.interfaces t (omega (arith, within, holds.units, holds.network.requests.interfaces)) in
+    record { interface = interface.item; at = interface.there; holds = holds.tiles t interface.item unit interface.there at }
 
 -- no tile has delivered more than there is
 pub delivered_within : (d : Doc) (s : ChipState) → ProtocolHolds d s → (v : ℕ) → delivered_at s v ≤ length s.network.ordered

@@ -1,13 +1,10 @@
 -- Before any event no get is made, and nothing is to answer one; and what a chip's invariant says of a tile to which
 -- something comes.
-use Rattle.std.proofs.Common.{◌≡◌, ℕ, zero, suc, ◌+◌, ◌<◌, Bool, true, false, cond, List, [], ◌∷◌, length, map, refl, sym, ◌∙◌, ap, subst, arith, Option, Some, None}
+use Rattle.std.proofs.Common.{◌≡◌, ℕ, zero, suc, Bool, true, false, cond, List, [], ◌∷◌, map, refl, ap, subst, arith, Some, None}
 use Rattle.std.specs.Prelude.{◌==◌, slice_get}
 use Rattle.std.specs.List.{sum_by, count_by}
 use Rattle.std.proofs.lemmas.List.Sums.{sum_by-cons}
-use Rattle.std.proofs.lemmas.Option.{slice_get_within}
-use Rattle.mesh_gen.specs.declared.request.Request.{Request}
 use Rattle.mesh_gen.specs.Ports.{count_if}
-use Rattle.core_isa.specs.declared.instr.Instr.{Instr}
 use Rattle.order_tracker.specs.Order.{upwards}
 use Rattle.doc_text.specs.Doc.{Doc}
 use Rattle.chip_model.specs.Chip.{Chip, chip_of, tile_count, home}

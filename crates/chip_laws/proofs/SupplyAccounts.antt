@@ -1,7 +1,7 @@
 -- The account of a node's own get: it had early words, or owns the line, or waits once it is ordered. And what data, an
 -- access and the sending of requests and messages do to what a node has promised.
-use Rattle.std.proofs.Common.{◌≡◌, ℕ, ◌+◌, ◌≤◌, Bool, true, false, cond, List, [], ◌∷◌, ◌++◌, set, drop, refl, sym, ◌∙◌, ap, subst, arith, Option, Some, None}
-use Rattle.std.specs.Prelude.{◌==◌, ◌&&◌, ◌||◌, not, is_some, slice_get, slice_index_or, if◌then◌else◌}
+use Rattle.std.proofs.Common.{◌≡◌, ℕ, ◌+◌, ◌≤◌, Bool, true, false, cond, List, refl, sym, ◌∙◌, ap, subst, arith, Option, Some, None}
+use Rattle.std.specs.Prelude.{◌==◌, ◌&&◌, ◌||◌, not, is_some, slice_get, slice_index_or}
 use Rattle.std.specs.List.{sum_by, count_by}
 use Rattle.std.proofs.lemmas.Bool.{cond_both}
 use Rattle.std.proofs.lemmas.Bool.Decides.{nat_tests}
@@ -15,10 +15,10 @@ use Rattle.chip_model.specs.declared.line_state.State.{State}
 use Rattle.chip_model.specs.declared.line_state.State.TheVariants.{M, O, S}
 use Rattle.chip_model.specs.declared.owner.Owner.{Owner}
 use Rattle.chip_model.specs.declared.owner.Owner.TheVariants.{Memory, Tile}
-use Rattle.chip_model.specs.Chip.{Chip, line_of}
+use Rattle.chip_model.specs.Chip.{Chip}
 use Rattle.chip_model.specs.Cache.{Held, lookup, is_shared}
-use Rattle.chip_model.specs.Misses.{Demand, WriteBack, Misses, is_getm, request_for, sent_demand, sent_by, marked_sent}
-use Rattle.chip_model.specs.Snoop.{CacheSide, Outcome, owned_words, words_in_state, completed, ordered_with, words_here, own_get, own_put, own_request, data_at, data_for, after_data, data_to_all}
+use Rattle.chip_model.specs.Misses.{Demand, WriteBack, Misses, is_getm, sent_demand, marked_sent}
+use Rattle.chip_model.specs.Snoop.{CacheSide, owned_words, words_in_state, completed, ordered_with, words_here, own_get, own_put, own_request, data_at, data_for, after_data}
 use Rattle.chip_model.specs.Records.{LineRecord, Records, Answers, from_memory, awaiting_write_back, owned_by_tile, answered_by, answered_at, answered, returned, returned_at, back_arrived}
 use Rattle.chip_model.specs.Node.{Node, Performed, node_after_access, after_request_sent, after_message_sent}
 use Rattle.chip_model.specs.Ownership.{is_owned_copy, is_live_back, is_open_write, owns}

@@ -1,6 +1,6 @@
 -- At most one get of a tile is ordered and not complete: what a tile has not delivered is its demand's.
-use Rattle.std.proofs.Common.{◌≡◌, ℕ, zero, suc, ◌+◌, ◌<◌, ◌≤◌, Bool, true, false, cond, List, [], ◌∷◌, length, map, take, drop, refl, sym, ◌∙◌, ap, arith, Option, Some, None}
-use Rattle.std.specs.Prelude.{◌==◌, ◌&&◌, is_some, is_none, filter, slice_get, if◌then◌else◌}
+use Rattle.std.proofs.Common.{◌≡◌, ℕ, zero, suc, ◌+◌, ◌≤◌, Bool, true, false, cond, List, [], ◌∷◌, length, map, take, drop, refl, sym, ◌∙◌, ap, arith, Option, Some, None}
+use Rattle.std.specs.Prelude.{◌==◌, ◌&&◌, is_some, is_none}
 use Rattle.std.specs.List.{count_by}
 use Rattle.std.proofs.lemmas.List.{length-map}
 use Rattle.std.proofs.lemmas.List.Sums.{length-filter}
@@ -11,10 +11,9 @@ use Rattle.chip_model.specs.Misses.{Demand}
 use Rattle.chip_model.specs.OrderedNetwork.{OrderedNetwork, Interface}
 use Rattle.chip_model.specs.Node.{Node}
 use Rattle.chip_model.specs.Ownership.{delivered_to}
-use Rattle.chip_model.specs.Bookkeeping.{is_get, is_get_of, count_by_tile, gets_among, asked_for, outstanding_get, TileAgrees}
+use Rattle.chip_model.specs.Bookkeeping.{is_get, is_get_of, count_by_tile, gets_among, outstanding_get, TileAgrees}
 use Rattle.chip_model.specs.NetworkFits.{requests_of, InterfaceAgrees}
 use Rattle.chip_model.specs.Suppliers.{is_ordered}
-use Rattle.chip_laws.proofs.OrderLists.{count_by_tile-snoc}
 use Rattle.chip_laws.proofs.SupplyCounts.{count_by-cons}
 
 abbrev asks : Request → Bool

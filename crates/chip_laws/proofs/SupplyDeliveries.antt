@@ -1,7 +1,7 @@
 -- A delivery: the node or its records supply a get exactly where the order says that they are its supplier.
-use Rattle.std.proofs.Common.{◌≡◌, ℕ, ◌+◌, ◌≤◌, ◌<◌, Bool, true, false, cond, List, [], ◌∷◌, ◌++◌, refl, sym, ◌∙◌, ap, subst, arith, Option, Some, None}
-use Rattle.std.specs.Prelude.{◌==◌, ◌&&◌, is_some, slice_get, slice_index_or}
-use Rattle.std.specs.List.{sum_by, count_by}
+use Rattle.std.proofs.Common.{◌≡◌, ℕ, ◌+◌, ◌≤◌, ◌<◌, Bool, true, false, cond, List, ◌++◌, refl, sym, ◌∙◌, ap, subst, arith, Option, Some, None}
+use Rattle.std.specs.Prelude.{◌==◌, is_some, slice_index_or}
+use Rattle.std.specs.List.{count_by}
 use Rattle.std.proofs.lemmas.Bool.{eqb-true}
 use Rattle.mesh_gen.specs.declared.request.Request.{Request}
 use Rattle.mesh_gen.specs.declared.msg.Msg.{Msg}
@@ -11,13 +11,13 @@ use Rattle.mesh_gen.specs.Ports.{count_if}
 use Rattle.chip_model.specs.declared.owner.Owner.{Owner}
 use Rattle.chip_model.specs.declared.owner.Owner.TheVariants.{Memory, Tile}
 use Rattle.chip_model.specs.Chip.{Chip, home}
-use Rattle.chip_model.specs.Snoop.{CacheSide, Outcome, holding, own_request, snooped_with, after_snoop, after_data}
+use Rattle.chip_model.specs.Snoop.{CacheSide, holding, own_request, snooped_with, after_snoop, after_data}
 use Rattle.chip_model.specs.Records.{LineRecord, answered, back_arrived}
 use Rattle.chip_model.specs.Node.{Node, node_after_request, arrived_as, node_after_message}
 use Rattle.chip_model.specs.Ownership.{owner, is_tile, owns, delivered_to, OwnsByOrder}
 use Rattle.chip_model.specs.NodeShape.{SideFits, NodeFits}
 use Rattle.chip_model.specs.Bookkeeping.{is_get, is_get_of}
-use Rattle.chip_model.specs.Suppliers.{supplier, is_data_for, places_after, places_at, has_early, is_ordered}
+use Rattle.chip_model.specs.Suppliers.{supplier, is_data_for, has_early}
 use Rattle.snoop_core.specs.Requests.{OwnRequestFits}
 use Rattle.chip_laws.proofs.SupplyCounts.{count_by-append}
 use Rattle.chip_laws.proofs.SupplySends.{OnePromise, SameOpen, other_promises, other_open, own_promises}

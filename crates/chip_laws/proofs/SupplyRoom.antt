@@ -1,18 +1,16 @@
 -- What follows from the sum: whatever a node has promised a tile, it is one answer at most.
-use Rattle.std.proofs.Common.{◌≡◌, ℕ, zero, suc, ◌+◌, ◌≤◌, Bool, true, false, List, [], ◌∷◌, drop, ap, arith, Option, Some, None}
+use Rattle.std.proofs.Common.{◌≡◌, ℕ, zero, suc, ◌+◌, ◌≤◌, Bool, true, false, List, [], ◌∷◌, ap, arith, Some}
 use Rattle.std.specs.Prelude.{is_some, slice_get}
-use Rattle.std.specs.List.{sum_by, count_by}
+use Rattle.std.specs.List.{sum_by}
 use Rattle.std.proofs.lemmas.List.Sums.{sum_by-cons}
 use Rattle.mesh_gen.specs.Ports.{count_if}
 use Rattle.vc_bank.specs.Places.{at}
-use Rattle.mesh_gen.specs.declared.msg.Msg.{Msg}
 use Rattle.doc_text.specs.Doc.{Doc}
 use Rattle.chip_model.specs.Chip.{chip_of}
 use Rattle.chip_model.specs.Units.{UnitState}
 use Rattle.chip_model.specs.ChipState.{ChipState}
 use Rattle.chip_model.specs.ChipInvariant.{ProtocolHolds}
-use Rattle.chip_model.specs.Bookkeeping.{is_get_of}
-use Rattle.chip_model.specs.Suppliers.{promised_by, answers_to_come, has_early, is_ordered}
+use Rattle.chip_model.specs.Suppliers.{promised_by, answers_to_come, has_early}
 use Rattle.chip_laws.proofs.Options.{none_some}
 use Rattle.chip_laws.proofs.SupplyBounds.{one_open}
 use Rattle.chip_laws.proofs.SupplyAccounts.{promised}

@@ -1,11 +1,11 @@
 -- What a step of a node does to what it has promised a tile: the words in its queue, and the tile's places after its
 -- demand and among the waiters of its records. A request of another tile adds a promise where the node owns the line.
-use Rattle.std.proofs.Common.{◌≡◌, ℕ, ◌+◌, ◌≤◌, Bool, true, false, cond, List, [], ◌∷◌, ◌++◌, set, refl, sym, ◌∙◌, ap, subst, arith, Option, Some, None}
-use Rattle.std.specs.Prelude.{◌==◌, ◌&&◌, ◌||◌, not, is_some, slice_index_or, if◌then◌else◌}
-use Rattle.std.specs.List.{sum_by, count_by}
+use Rattle.std.proofs.Common.{◌≡◌, ℕ, ◌+◌, Bool, true, false, cond, List, [], ◌∷◌, ◌++◌, refl, sym, ◌∙◌, ap, subst, arith, Option, Some, None}
+use Rattle.std.specs.Prelude.{◌==◌, ◌&&◌, ◌||◌, not, if◌then◌else◌}
+use Rattle.std.specs.List.{count_by}
 use Rattle.std.proofs.lemmas.Bool.{cond_both}
 use Rattle.std.proofs.lemmas.Bool.Decides.{nat_tests}
-use Rattle.std.proofs.lemmas.List.Sums.{sum_by-cons, sum_by_push}
+use Rattle.std.proofs.lemmas.List.Sums.{sum_by_push}
 use Rattle.mesh_gen.specs.declared.kind.Kind.{Kind}
 use Rattle.mesh_gen.specs.declared.kind.Kind.TheVariants.{GetS, GetM, PutM}
 use Rattle.mesh_gen.specs.declared.request.Request.{Request}
@@ -14,21 +14,18 @@ use Rattle.mesh_gen.specs.Ports.{count_if}
 use Rattle.report_text.specs.declared.access.AccessKind.{AccessKind}
 use Rattle.report_text.specs.declared.access.AccessKind.TheVariants.{Load, Store, Swap, Add}
 use Rattle.chip_model.specs.declared.waiting.Waiting.{Waiting}
-use Rattle.chip_model.specs.declared.owner.Owner.{Owner}
-use Rattle.chip_model.specs.declared.owner.Owner.TheVariants.{Memory, Tile}
 use Rattle.chip_model.specs.Chip.{Chip, home}
-use Rattle.chip_model.specs.Cache.{Held, lookup}
+use Rattle.chip_model.specs.Cache.{lookup}
 use Rattle.chip_model.specs.Misses.{Demand, WriteBack, is_getm, ends_in_getm, request_for}
 use Rattle.chip_model.specs.Snoop.{CacheSide, Outcome, Holding, OwnedCopy, LiveBack, OpenWrite, OpenRead, SharedCopy, Nothing, holding, live_for, ordered_for, snooped_with, data_to, data_to_all, completed, completed_store, completed_load, ordered_with, words_here, own_get, own_put, own_request, written_by}
-use Rattle.chip_model.specs.Records.{LineRecord, Records, from_memory, awaiting_write_back, owned_by_tile, answered_by, answered_at, answered, returned, returned_at, back_arrived}
 use Rattle.chip_model.specs.Ownership.{is_owned_copy, is_live_back, is_open_write, owns}
 use Rattle.chip_model.specs.NodeShape.{SideFits}
 use Rattle.chip_model.specs.Bookkeeping.{is_get, is_get_of}
-use Rattle.chip_model.specs.Suppliers.{is_data_for, places_in, places_after, places_at, has_early, is_ordered}
+use Rattle.chip_model.specs.Suppliers.{is_data_for, places_in, places_after, has_early, is_ordered}
 use Rattle.snoop_core.specs.Requests.{MeetsDemand, MeetsOwn}
-use Rattle.snoop_core.proofs.HoldingCases.{holding_forms, live_is, ordered_is, not_live, not_open_none, not_open_ended, holding_open_write, holding_open_read}
+use Rattle.snoop_core.proofs.HoldingCases.{holding_forms, ordered_is, not_live, not_open_none, not_open_ended, holding_open_write, holding_open_read}
 use Rattle.snoop_core.proofs.SnoopSteps.{snoop_forms}
-use Rattle.chip_laws.proofs.SupplyCounts.{count_by-cons, sum_by-set, slice_of_index}
+use Rattle.chip_laws.proofs.SupplyCounts.{count_by-cons}
 
 -- ---- lists of tiles that wait
 pub places_more : (t : ℕ) (list : List Waiting) (last : Waiting) → places_in t (list ++ last ∷ []) ≡ places_in t list + count_if (last.tile == t)

@@ -1,7 +1,7 @@
 -- The times of the accesses, and who performed them, over every event.
-use Rattle.std.proofs.Common.{◌≡◌, ◌≢◌, ◌⊎◌, ℕ, zero, suc, ◌+◌, ◌<◌, ◌≤◌, Bool, true, false, refl, sym, ◌∙◌, ap, subst, arith, inl, inr, Option, Some, None, List, [], ◌∷◌, ◌++◌, take, length, slice_get}
+use Rattle.std.proofs.Common.{◌≡◌, ◌⊎◌, ℕ, zero, suc, ◌+◌, ◌<◌, ◌≤◌, true, false, refl, sym, ◌∙◌, ap, subst, arith, inl, inr, Option, Some, None, List, [], ◌∷◌, ◌++◌, take, length, slice_get}
 use Rattle.std.specs.Prelude.{IfSome}
-use Rattle.std.proofs.lemmas.Bool.{false≢true, cases_eq}
+use Rattle.std.proofs.lemmas.Bool.{false≢true}
 use Rattle.std.proofs.lemmas.List.{take-append-le, length-append}
 use Rattle.std.proofs.lemmas.Option.{same_Some, slice_get_within}
 use Rattle.mesh_gen.specs.declared.request.Request.{Request}
@@ -11,14 +11,14 @@ use Rattle.report_text.specs.declared.event.Event.TheVariants.{Tick, Core, Injec
 use Rattle.report_text.specs.Accesses.{writes}
 use Rattle.doc_text.specs.Doc.{Doc}
 use Rattle.chip_model.specs.declared.done.Done.{Done}
-use Rattle.chip_model.specs.declared.owner.Owner.TheVariants.{Memory, Tile}
+use Rattle.chip_model.specs.declared.owner.Owner.TheVariants.{Tile}
 use Rattle.chip_model.specs.Chip.{Chip, chip_of, tile_count, line_of}
 use Rattle.chip_model.specs.Misses.{Demand}
-use Rattle.chip_model.specs.Node.{Node, Performed, after_request_sent, after_message_sent}
+use Rattle.chip_model.specs.Node.{Performed, after_request_sent, after_message_sent}
 use Rattle.chip_model.specs.Units.{UnitState, Acted, Behaviour}
 use Rattle.chip_model.specs.ChipState.{ChipState}
 use Rattle.chip_model.specs.Events.{with_access}
-use Rattle.chip_model.specs.BehaviourLaws.{KeepsLaws, numbered, IsOfCore, Answers, GoesOn, WorksAlone, TriesAccess, Receives, Works}
+use Rattle.chip_model.specs.BehaviourLaws.{KeepsLaws, numbered, IsOfCore, Answers, GoesOn, WorksAlone, Works}
 use Rattle.chip_model.specs.Witness.{is_write}
 use Rattle.chip_model.specs.Ownership.{writer}
 use Rattle.chip_model.specs.Writers.{time_of_demand, latest_time, IsTimely}
@@ -26,10 +26,10 @@ use Rattle.chip_model.specs.ChipInvariant.{ProtocolHolds}
 use Rattle.chip_laws.specs.EventSteps.{ChangesUnit, EventDoes}
 use Rattle.chip_laws.specs.ReadyUnits.{WorksWhileNoneWaits}
 use Rattle.chip_laws.proofs.Options.{none_some}
-use Rattle.chip_laws.specs.Parts.{UnitsFit}
-use Rattle.chip_laws.proofs.UnitFrames.{each_unit, same_units}
+use Rattle.chip_laws.specs.Meetings.{UnitsFit}
+use Rattle.chip_laws.proofs.UnitFrames.{each_unit}
 use Rattle.chip_laws.proofs.OrderGrows.{Grows, order_grows, injected_order, delivered_order}
-use Rattle.chip_laws.proofs.OrderFrames.{KnownOf, IsNext, DeliversNext, AllKnown, known_of, holds_at}
+use Rattle.chip_laws.proofs.OrderFrames.{KnownOf, DeliversNext, AllKnown, holds_at}
 use Rattle.chip_laws.proofs.TimesSteps.{IsInTime, StepInTime, delivered_in_time, arrived_in_time, accessed_in_time, request_sent_time, message_sent_time}
 
 -- ---- one access more

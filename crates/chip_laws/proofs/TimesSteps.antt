@@ -1,5 +1,5 @@
 -- The time of each access that a node performs, and who may write its line then: through each step of a node.
-use Rattle.std.proofs.Common.{◌≡◌, ℕ, zero, suc, ◌+◌, ◌<◌, ◌≤◌, Bool, true, false, cond, refl, sym, ◌∙◌, ap, subst, arith, Option, Some, None, List, [], ◌∷◌, ◌++◌, take, length, slice_get}
+use Rattle.std.proofs.Common.{◌≡◌, ℕ, ◌+◌, ◌<◌, ◌≤◌, Bool, true, false, refl, sym, ◌∙◌, ap, subst, arith, Option, Some, None, List, take, length, slice_get}
 use Rattle.std.specs.Prelude.{◌==◌, ◌||◌, not, is_some, if◌then◌else◌}
 use Rattle.std.proofs.lemmas.Bool.{cond_both, eqb-true}
 use Rattle.std.proofs.lemmas.Option.{same_Some, slice_get_within}
@@ -15,17 +15,16 @@ use Rattle.report_text.specs.Accesses.{writes}
 use Rattle.chip_model.specs.declared.done.Done.{Done}
 use Rattle.chip_model.specs.declared.line_state.State.{State}
 use Rattle.chip_model.specs.declared.line_state.State.TheVariants.{M, O, S}
-use Rattle.chip_model.specs.declared.owner.Owner.TheVariants.{Memory, Tile}
+use Rattle.chip_model.specs.declared.owner.Owner.TheVariants.{Tile}
 use Rattle.chip_model.specs.declared.pending.Pending.{Pending}
 use Rattle.chip_model.specs.Chip.{Chip, line_of}
 use Rattle.chip_model.specs.Cache.{Cache, Held, lookup, has_room, without_shared, lowest_for}
-use Rattle.chip_model.specs.Misses.{Demand, WriteBack, Misses, is_getm, is_written_back, request_for, sent_demand, sent_by, marked_sent}
-use Rattle.chip_model.specs.Snoop.{CacheSide, Outcome, with_demand, with_cache, done_by, completed, completed_load, completed_store, words_here, ordered_with, own_get, own_put, own_request, holding, snooped_with, after_snoop, data_at, data_for, after_data}
+use Rattle.chip_model.specs.Misses.{Demand, WriteBack, is_getm, is_written_back, request_for, sent_demand, marked_sent}
+use Rattle.chip_model.specs.Snoop.{CacheSide, Outcome, with_cache, done_by, completed, completed_load, completed_store, words_here, ordered_with, own_get, own_put, own_request, holding, snooped_with, after_snoop, data_at, data_for, after_data}
 use Rattle.chip_model.specs.Node.{Node, Performed, has_entry, holds_back, load_hit, demand_started, back_started, victim_evicted, missed, unless_written_back, store_to, accessed_with, node_after_access, node_after_request, arrived_as, node_after_message, after_request_sent, after_message_sent}
 use Rattle.chip_model.specs.NodeShape.{DemandFits, SideFits}
-use Rattle.chip_model.specs.Ownership.{writer, writer_by, delivered_to}
-use Rattle.chip_model.specs.Bookkeeping.{IsOrderedAt}
-use Rattle.chip_model.specs.Writers.{time_of_place, time_of_demand, latest_time, writer_for_state, WritersFit}
+use Rattle.chip_model.specs.Ownership.{writer, delivered_to}
+use Rattle.chip_model.specs.Writers.{time_of_place, time_of_demand, latest_time, writer_for_state}
 use Rattle.snoop_core.specs.Requests.{IsRequestOf, MeetsDemand, MeetsOwn, OwnRequestFits}
 use Rattle.snoop_core.proofs.SnoopSteps.{snoop_forms}
 use Rattle.snoop_core.proofs.Sending.{sent_forms}

@@ -3,7 +3,7 @@ use Rattle.std.proofs.Common.{◌≡◌, ℕ, Bool, true, false, cond, refl, sym
 use Rattle.std.specs.Prelude.{is_none, not, ◌&&◌, if◌then◌else◌}
 use Rattle.std.proofs.lemmas.Bool.{cond_both}
 use Rattle.std.proofs.lemmas.Option.{same_Some}
-use Rattle.std.proofs.lemmas.List.{map-append}
+use Rattle.std.proofs.lemmas.List.{map-append, append-nil}
 use Rattle.std.proofs.lemmas.List.Elements.{filter-append}
 use Rattle.mesh_gen.specs.declared.kind.Kind.{Kind}
 use Rattle.mesh_gen.specs.declared.kind.Kind.TheVariants.{GetS, GetM, PutM}
@@ -32,10 +32,6 @@ puts_more : (rest : List Request) (q : Request) → asked_for (puts_among (rest 
 puts_more rest q =
     ap asked_for (filter-append (λ (r : Request). not (is_get r.kind)) rest (q ∷ []))
     ∙ map-append (λ (r : Request). (r.kind, r.line)) (puts_among rest) (puts_among (q ∷ []))
-
-appended_none : {X : Type 0} (xs : List X) → xs ++ [] ≡ xs
-appended_none [] = refl
-appended_none {X} (x ∷ xs) = ap (λ (rest : List X). x ∷ rest) (appended_none xs)
 
 -- a request is a get or a write-back
 pub record IsAGet (q : Request) : Type 0 where
@@ -81,7 +77,7 @@ get_made chip side rest q demand back fits stands back_is unsent asks is =
           ∙ sym after;
       puts = puts_more rest q
           ∙ ap (λ (xs : List Request). asked_for (puts_among rest) ++ asked_for xs) get.puts
-          ∙ appended_none (asked_for (puts_among rest))
+          ∙ append-nil (asked_for (puts_among rest))
           ∙ is.puts ∙ ap outstanding_put back_is;
     }
 
@@ -95,7 +91,7 @@ put_made side rest q back stands unsent asks is =
     record {
       gets = gets_more rest q
           ∙ ap (λ (xs : List Request). asked_for (gets_among rest) ++ asked_for xs) put.gets
-          ∙ appended_none (asked_for (gets_among rest))
+          ∙ append-nil (asked_for (gets_among rest))
           ∙ is.gets;
       puts = puts_more rest q
           ∙ ap (λ (xs : List (Kind × ℕ)). xs ++ asked_for (puts_among (q ∷ []))) (is.puts ∙ before)

@@ -10,7 +10,7 @@ use Rattle.chip_model.specs.Units.{UnitState, Acted, Behaviour}
 use Rattle.chip_model.specs.ChipState.{ChipState}
 use Rattle.chip_model.specs.Events.{step}
 use Rattle.chip_model.specs.BehaviourLaws.{KeepsLaws, Works}
-use Rattle.chip_laws.specs.Parts.{UnitsFit}
+use Rattle.chip_laws.specs.Meetings.{UnitsFit}
 use Rattle.chip_laws.specs.EventSteps.{ChangesUnit, EventDoes, NodeStep, node_stays, request_leaves, message_leaves, request_comes, message_comes, node_accesses}
 use Rattle.chip_laws.proofs.Options.{slice_get-set_same, slice_get-set_other}
 use Rattle.chip_laws.proofs.EventSteps.{event_does}

@@ -1,11 +1,9 @@
 -- What a delivery is to the nodes and to the order, from what holds of the chip: the parts' lemmas on one event, joined.
-use Rattle.std.proofs.Common.{◌≡◌, ℕ, sym, ◌∙◌, ap, subst, refl, arith, Some, slice_get}
+use Rattle.std.proofs.Common.{◌≡◌, Some}
 use Rattle.report_text.specs.declared.event.Event.{Event}
 use Rattle.report_text.specs.declared.event.Event.TheVariants.{Tick, Core, Inject, Post, Take, Eject, Send, Hop, DataHop, DataEject}
-use Rattle.mesh_gen.specs.Routes.{HasTiles}
 use Rattle.doc_text.specs.Doc.{Doc}
 use Rattle.chip_model.specs.Chip.{chip_of}
-use Rattle.chip_model.specs.OrderedNetwork.{OrderedNetwork}
 use Rattle.chip_model.specs.Units.{Behaviour}
 use Rattle.chip_model.specs.ChipState.{ChipState}
 use Rattle.chip_model.specs.Events.{step}
@@ -14,14 +12,13 @@ use Rattle.chip_model.specs.ChipInvariant.{ProtocolHolds}
 use Rattle.reply_net.proofs.Accounts.{Nearer}
 use Rattle.chip_laws.specs.DocFits.{DocFits}
 use Rattle.chip_laws.specs.EventSteps.{EventDoes}
-use Rattle.chip_laws.specs.Meetings.{DeliveriesFit, ArrivalsFit, NodesHold}
-use Rattle.chip_laws.specs.Parts.{UnitsFit, GetsAreSupplied}
+use Rattle.chip_laws.specs.Meetings.{DeliveriesFit, UnitsFit}
+use Rattle.chip_laws.specs.Parts.{GetsAreSupplied}
 use Rattle.chip_laws.proofs.EventSteps.{event_does}
 use Rattle.chip_laws.proofs.NodeKeeps.{node_keeps}
 use Rattle.chip_laws.proofs.TileAgreements.{own_request_fits}
 use Rattle.chip_laws.proofs.NetworkFrames.{ticked_views, taken_views, hopped_views, posted_views, injected_sets, delivered_sets}
-use Rattle.chip_laws.proofs.RequestsInside.{request_inside, tile_of_unit, tile_of}
-use Rattle.chip_laws.proofs.NodeEvents.{nodes_hold}
+use Rattle.chip_laws.proofs.RequestsInside.{request_inside}
 use Rattle.chip_laws.proofs.OrderFrames.{DeliversNext, holds_at}
 use Rattle.chip_laws.proofs.SuppliedEvents.{OrderGoes, supplied_event}
 
@@ -57,11 +54,6 @@ order_goes b d s new (Core t) fits holds next does = _
 order_goes b d s new (Send t) fits holds next does = _
 order_goes b d s new (DataHop r port slot) fits holds next does = _
 order_goes b d s new (DataEject r port slot) fits holds next does = _
-
--- nodes by themselves, after an event
-pub nodes_after : (b : Behaviour) (laws : KeepsLaws b) (d : Doc) (s new : ChipState) (event : Event) → DocFits d → ProtocolHolds d s → UnitsFit b laws s
-    → DeliveriesFit d s → ArrivalsFit s → step b (chip_of d) s event ≡ Some new → NodesHold d new
-nodes_after b laws d s new event fits holds fit next arrive e = nodes_hold b laws d s new event fits holds fit next arrive (event_does b (chip_of d) s new event e)
 
 -- who answers the gets, after an event
 pub supplied_after : Nearer → (b : Behaviour) (laws : KeepsLaws b) (d : Doc) (s new : ChipState) (event : Event) → DocFits d → ProtocolHolds d s → UnitsFit b laws s

@@ -1,21 +1,19 @@
 -- What the copy of a line says of who may write it, as a test, and what a request of another tile makes of it.
-use Rattle.std.proofs.Common.{◌≡◌, ℕ, Bool, true, false, cond, refl, sym, ◌∙◌, ap, subst, arith, inl, inr, ◌⊎◌, Option, Some, None, List, take}
+use Rattle.std.proofs.Common.{◌≡◌, ℕ, Bool, true, false, cond, refl, sym, ◌∙◌, ap, inl, inr, ◌⊎◌, Option, Some, None, List}
 use Rattle.std.specs.Prelude.{◌==◌, ◌&&◌, ◌||◌, not, is_some, if◌then◌else◌}
 use Rattle.std.proofs.lemmas.Bool.{cond_both, false≢true, eqb-true, eq-eqb}
-use Rattle.std.proofs.lemmas.Bool.Decides.{nat_tests}
-use Rattle.mesh_gen.specs.declared.kind.Kind.{Kind}
-use Rattle.mesh_gen.specs.declared.kind.Kind.TheVariants.{GetS, GetM, PutM}
+use Rattle.mesh_gen.specs.declared.kind.Kind.TheVariants.{GetS, GetM}
 use Rattle.mesh_gen.specs.declared.request.Request.{Request}
 use Rattle.chip_model.specs.declared.line_state.State.{State}
 use Rattle.chip_model.specs.declared.line_state.State.TheVariants.{M, O, S}
 use Rattle.chip_model.specs.declared.owner.Owner.{Owner}
 use Rattle.chip_model.specs.declared.owner.Owner.TheVariants.{Memory, Tile}
 use Rattle.chip_model.specs.Chip.{Chip}
-use Rattle.chip_model.specs.Cache.{Held, is_shared, lookup, installed, without_line}
+use Rattle.chip_model.specs.Cache.{Held, is_shared, lookup, installed}
 use Rattle.chip_model.specs.Misses.{Demand, WriteBack, is_getm, ends_in_getm}
-use Rattle.chip_model.specs.Snoop.{CacheSide, Holding, OwnedCopy, LiveBack, OpenWrite, OpenRead, SharedCopy, Nothing, holding_demand, holding_unowned, holding_by, ordered_for, live_for, holding, snooped_with}
+use Rattle.chip_model.specs.Snoop.{CacheSide, OwnedCopy, OpenWrite, OpenRead, Nothing, holding_demand, holding_unowned, holding_by, ordered_for, live_for, holding, snooped_with}
 use Rattle.chip_model.specs.Node.{Node}
-use Rattle.chip_model.specs.Ownership.{is_tile, writer, writer_after, is_owned_copy, delivered_to}
+use Rattle.chip_model.specs.Ownership.{is_tile, writer, is_owned_copy, delivered_to}
 use Rattle.chip_model.specs.NodeShape.{SideFits}
 use Rattle.chip_model.specs.Writers.{is_ordered_write, writer_for_state, WritersFit}
 use Rattle.snoop_core.proofs.CacheMaps.{lookup-line, lookup-without_line, lookup-installed, fits_held}

@@ -1,9 +1,8 @@
 -- Who owns a line and who may write the copy of it, over every event.
-use Rattle.std.proofs.Common.{◌≡◌, ℕ, ◌+◌, ◌<◌, ◌≤◌, Bool, true, false, refl, sym, ◌∙◌, ap, subst, arith, inl, inr, Option, Some, None, List, [], ◌∷◌, ◌++◌, take, length, slice_get}
-use Rattle.std.specs.Prelude.{◌==◌, ◌&&◌, ◌||◌, not, is_some, filter}
+use Rattle.std.proofs.Common.{◌≡◌, ℕ, ◌+◌, Bool, true, false, refl, sym, ◌∙◌, ap, subst, Some, List, [], ◌∷◌, ◌++◌, take, slice_get}
+use Rattle.std.specs.Prelude.{◌==◌, ◌&&◌, ◌||◌, not, is_some}
 use Rattle.std.specs.List.{fold, list_any}
-use Rattle.std.proofs.lemmas.Bool.{false≢true, eqb-true, eq-eqb}
-use Rattle.std.proofs.lemmas.Bool.Decides.{nat_tests}
+use Rattle.std.proofs.lemmas.Bool.{eqb-true, eq-eqb}
 use Rattle.std.proofs.lemmas.List.{take-append-le}
 use Rattle.mesh_gen.specs.declared.kind.Kind.{Kind}
 use Rattle.mesh_gen.specs.declared.kind.Kind.TheVariants.{GetS, GetM, PutM}
@@ -17,25 +16,24 @@ use Rattle.chip_model.specs.declared.owner.Owner.TheVariants.{Memory, Tile}
 use Rattle.chip_model.specs.declared.pending.Pending.{Pending}
 use Rattle.chip_model.specs.declared.waiting.Waiting.{Waiting}
 use Rattle.chip_model.specs.Chip.{Chip}
-use Rattle.chip_model.specs.Cache.{Held, lookup}
-use Rattle.chip_model.specs.Misses.{Demand, is_getm, ends_in_getm, marked_sent}
-use Rattle.chip_model.specs.Snoop.{CacheSide, after_snoop, after_data}
+use Rattle.chip_model.specs.Cache.{lookup}
+use Rattle.chip_model.specs.Misses.{Demand, is_getm, ends_in_getm}
+use Rattle.chip_model.specs.Snoop.{CacheSide, after_snoop}
 use Rattle.chip_model.specs.Node.{Node, Performed, node_after_access, node_after_request, arrived_as, node_after_message, after_request_sent, after_message_sent}
-use Rattle.chip_model.specs.NodeShape.{SideFits}
 use Rattle.chip_model.specs.Units.{UnitState, Behaviour}
 use Rattle.chip_model.specs.ChipState.{ChipState}
 use Rattle.chip_model.specs.BehaviourLaws.{KeepsLaws}
-use Rattle.chip_model.specs.Ownership.{is_tile, owner, owner_after, writer, writer_after, owns, is_owned_copy, is_live_back, is_open_write, delivered_to, OwnsByOrder}
-use Rattle.chip_model.specs.Bookkeeping.{is_get, is_get_of, between, gets_of_others, up_to_getm, waiting_for, IsOrderedAt, IsFollowed}
+use Rattle.chip_model.specs.Ownership.{is_tile, owner, writer, writer_after, owns, is_owned_copy, is_live_back, is_open_write, delivered_to, OwnsByOrder}
+use Rattle.chip_model.specs.Bookkeeping.{between, gets_of_others, up_to_getm, waiting_for, IsOrderedAt}
 use Rattle.chip_model.specs.Writers.{is_ordered_write, WritersFit}
 use Rattle.snoop_core.proofs.Accesses.{accessed_frame}
 use Rattle.snoop_core.proofs.OwnRequests.{is_gets}
 use Rattle.snoop_core.proofs.ByOrder.{OwnsByOrder-append, OwnsByOrder-node_after_request, OwnsByOrder-node_after_message, OwnsByOrder-node_after_access, OwnsByOrder-after_request_sent, OwnsByOrder-after_message_sent}
 use Rattle.chip_laws.specs.EventSteps.{EventDoes}
-use Rattle.chip_laws.specs.Parts.{UnitsFit}
+use Rattle.chip_laws.specs.Meetings.{UnitsFit}
 use Rattle.chip_laws.proofs.OrderFrames.{KnownOf, IsNext, DeliversNext, KeptByNodes, AllKnown, kept_by_event}
-use Rattle.chip_laws.proofs.OwnerFolds.{owner_of_getm, writer_next, writer_of_kind, WriterOwns, writer_owns, writer_from, owner_from, reads_only, none_writes, reads_stop, stays_owner, nobody_asks, all_read}
-use Rattle.chip_laws.proofs.WriterCopies.{is_memory, fits_copy, FitsWriter, tile_is, fits_writer, writers_fit}
+use Rattle.chip_laws.proofs.OwnerFolds.{owner_of_getm, writer_next, writer_of_kind, writer_from, owner_from, reads_only, none_writes, reads_stop, stays_owner, nobody_asks, all_read}
+use Rattle.chip_laws.proofs.WriterCopies.{fits_copy, FitsWriter, tile_is, fits_writer, writers_fit}
 use Rattle.chip_laws.proofs.WriterSteps.{CompletesFor, writers_snooped, writers_data, writers_accessed, sent_orders}
 
 -- ---- the owners

@@ -1,16 +1,11 @@
 -- Who may write the line of a copy, through each step of a node.
-use Rattle.std.proofs.Common.{◌≡◌, ℕ, ◌+◌, ◌<◌, ◌≤◌, Bool, true, false, cond, refl, sym, ◌∙◌, ap, subst, arith, inl, inr, Option, Some, None, List, [], ◌∷◌, ◌++◌, take, length}
-use Rattle.std.specs.Prelude.{◌==◌, ◌&&◌, ◌||◌, not, is_some, slice_get, if◌then◌else◌}
+use Rattle.std.proofs.Common.{◌≡◌, ℕ, Bool, true, false, cond, refl, sym, ◌∙◌, ap, subst, arith, Option, Some, None, List, [], ◌∷◌}
+use Rattle.std.specs.Prelude.{◌==◌, ◌&&◌, ◌||◌, not, is_some}
 use Rattle.std.proofs.lemmas.Bool.{cond_both, false≢true, eqb-true, eq-eqb}
 use Rattle.std.proofs.lemmas.Bool.Decides.{nat_tests}
-use Rattle.std.proofs.lemmas.List.{take-append-le}
-use Rattle.std.proofs.lemmas.Option.{same_Some}
 use Rattle.mesh_gen.specs.declared.kind.Kind.{Kind}
 use Rattle.mesh_gen.specs.declared.kind.Kind.TheVariants.{GetS, GetM, PutM}
 use Rattle.mesh_gen.specs.declared.request.Request.{Request}
-use Rattle.mesh_gen.specs.declared.msg.Msg.{Msg}
-use Rattle.mesh_gen.specs.declared.msg_kind.MsgKind.{MsgKind}
-use Rattle.mesh_gen.specs.declared.msg_kind.MsgKind.TheVariants.{Data, Back}
 use Rattle.chip_model.specs.declared.line_state.State.{State}
 use Rattle.chip_model.specs.declared.line_state.State.TheVariants.{M, O, S}
 use Rattle.chip_model.specs.declared.owner.Owner.{Owner}
@@ -19,7 +14,7 @@ use Rattle.chip_model.specs.declared.pending.Pending.{Pending}
 use Rattle.chip_model.specs.declared.waiting.Waiting.{Waiting}
 use Rattle.chip_model.specs.Chip.{Chip, line_of}
 use Rattle.chip_model.specs.Cache.{Cache, Held, is_shared, lookup, fits, installed, without_line}
-use Rattle.chip_model.specs.Misses.{Demand, WriteBack, Misses, is_getm, ends_in_getm, sent_demand, sent_by, marked_sent}
+use Rattle.chip_model.specs.Misses.{Demand, WriteBack, Misses, is_getm, ends_in_getm, sent_demand, marked_sent}
 use Rattle.chip_model.specs.Snoop.{CacheSide, with_demand, with_cache, with_back, completed, completed_load, completed_store, kept_after_store, kept_after_load, words_here, ordered_with, own_get, own_put, own_request, holding, snooped_with, after_snoop, data_at, data_for, after_data, written_by}
 use Rattle.chip_model.specs.Node.{Node, Performed, node_after_access}
 use Rattle.chip_model.specs.Ownership.{is_tile, written_back, writer_by, writer_after, is_owned_copy}
@@ -30,9 +25,9 @@ use Rattle.snoop_core.specs.Requests.{IsRequestOf, MeetsDemand, MeetsBack, Meets
 use Rattle.snoop_core.proofs.CacheMaps.{lookup-line, lookup-without_line, lookup-installed, fits_held}
 use Rattle.snoop_core.proofs.Accesses.{access_forms, accessed_free, started_by}
 use Rattle.snoop_core.proofs.Sending.{sent_forms}
-use Rattle.snoop_core.proofs.OwnRequests.{is_gets, LacksWords, lacks_words}
+use Rattle.snoop_core.proofs.OwnRequests.{is_gets, lacks_words}
 use Rattle.snoop_core.proofs.SnoopSteps.{snoop_forms}
-use Rattle.chip_laws.proofs.WriterCopies.{is_memory, fits_state, fits_copy, FitsWriter, other_orders, TakesCopy, write_takes, SharesCopy, read_shares}
+use Rattle.chip_laws.proofs.WriterCopies.{is_memory, fits_state, fits_copy, FitsWriter, other_orders, write_takes, read_shares}
 
 -- ---- the writer of a line after a request
 eqb_sym : (a b : ℕ) → (a == b) ≡ (b == a)

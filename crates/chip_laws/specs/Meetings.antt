@@ -1,5 +1,5 @@
 -- What a delivery and an arrival meet at the node to which they come.
-use Rattle.std.specs.Prelude.{◌≡◌, ℕ, Some, slice_get}
+use Rattle.std.specs.Prelude.{◌≡◌, ℕ, true, Some, slice_get}
 use Rattle.mesh_gen.specs.declared.msg.Msg.{Msg}
 use Rattle.mesh_gen.specs.declared.port.Port.{Port}
 use Rattle.mesh_gen.specs.declared.request.Request.{Request}
@@ -8,8 +8,10 @@ use Rattle.doc_text.specs.Doc.{Doc}
 use Rattle.chip_model.specs.Chip.{chip_of}
 use Rattle.chip_model.specs.OrderedNetwork.{OrderedNetwork, Interface, after_delivery}
 use Rattle.chip_model.specs.Replies.{after_data_eject}
-use Rattle.chip_model.specs.Units.{UnitState}
+use Rattle.chip_model.specs.Units.{UnitState, Behaviour}
 use Rattle.chip_model.specs.ChipState.{ChipState}
+use Rattle.chip_model.specs.BehaviourLaws.{KeepsLaws}
+use Rattle.chip_model.specs.UnitShape.{UnitFits}
 use Rattle.chip_model.specs.ChipInvariant.{NodeHolds}
 use Rattle.snoop_core.specs.Requests.{DataFits}
 
@@ -27,3 +29,11 @@ ArrivalsFit s = (t : ℕ) (port : Port) (slot : ℕ) (unit : UnitState) (msg : M
 abbrev pub NodesHold : Doc → ChipState → Type 0
 NodesHold d s = (t : ℕ) (interface : Interface) (unit : UnitState) → slice_get s.network.interfaces t ≡ Some interface
     → slice_get s.units t ≡ Some unit → NodeHolds d s t interface unit.node
+
+-- every unit runs its tile's program on a core of eight registers
+abbrev pub UnitsKeepShape : Doc → ChipState → Type 0
+UnitsKeepShape d s = (t : ℕ) (unit : UnitState) → slice_get s.units t ≡ Some unit → UnitFits d t unit
+
+-- each unit is one that such cores come to
+abbrev pub UnitsFit : (b : Behaviour) → KeepsLaws b → ChipState → Type 0
+UnitsFit b laws s = (t : ℕ) (unit : UnitState) → slice_get s.units t ≡ Some unit → laws.fits unit ≡ true

@@ -1,18 +1,13 @@
 -- The parts of what holds in every reachable state that are proved kept by every event.
-use Rattle.std.specs.Prelude.{◌≡◌, ℕ, ◌<◌, true, Some, slice_get}
+use Rattle.std.specs.Prelude.{◌≡◌, ℕ, ◌<◌, Some, slice_get}
 use Rattle.report_text.specs.declared.access.Access.{Access}
 use Rattle.doc_text.specs.Doc.{Doc}
 use Rattle.chip_model.specs.Chip.{chip_of, tile_count}
-use Rattle.chip_model.specs.Units.{UnitState, Behaviour}
+use Rattle.chip_model.specs.Units.{UnitState}
 use Rattle.chip_model.specs.ChipState.{ChipState}
-use Rattle.chip_model.specs.BehaviourLaws.{KeepsLaws}
 use Rattle.chip_model.specs.Ownership.{OwnsByOrder}
 use Rattle.chip_model.specs.Writers.{WritersFit, IsTimely}
 use Rattle.chip_model.specs.Suppliers.{IsSupplied}
-
--- each unit is one that such cores come to
-abbrev pub UnitsFit : (b : Behaviour) → KeepsLaws b → ChipState → Type 0
-UnitsFit b laws s = (t : ℕ) (unit : UnitState) → slice_get s.units t ≡ Some unit → laws.fits unit ≡ true
 
 -- of each node, what it owns and who may write its copies; of each access, its time and its tile
 pub record WritersHold (d : Doc) (s : ChipState) : Type 0 where

@@ -1,35 +1,64 @@
-ghost use Rattle.std.specs.Prelude.{◌≡◌, Some};
+ghost use Rattle.std.specs.Prelude.{◌≡◌, ℕ, Some, slice_get};
+ghost use Rattle.mesh_gen.specs.declared.request.Request.{Request};
 ghost use Rattle.report_text.specs.declared.event.Event.{Event};
 ghost use Rattle.doc_text.specs.Doc.{Doc};
-ghost use Rattle.chip_model.specs.Chip.{chip_of};
-ghost use Rattle.chip_model.specs.Units.{Behaviour, in_order};
+ghost use Rattle.chip_model.specs.Chip.{Chip, chip_of};
+ghost use Rattle.chip_model.specs.OrderedNetwork.{OrderedNetwork, after_delivery};
+ghost use Rattle.chip_model.specs.Units.{UnitState, Behaviour, in_order};
 ghost use Rattle.chip_model.specs.ChipState.{ChipState, opening};
 ghost use Rattle.chip_model.specs.Events.{step};
 ghost use Rattle.chip_model.specs.BehaviourLaws.{KeepsLaws};
-ghost use Rattle.chip_model.specs.ChipInvariant.{ProtocolHolds};
+ghost use Rattle.chip_model.specs.ChipInvariant.{CoresInOrder, ProtocolHolds};
+ghost use Rattle.snoop_core.specs.Requests.{OwnRequestFits};
 ghost use Rattle.chip_laws.specs.DocFits.{DocFits};
-ghost use Rattle.chip_laws.specs.Meetings.{DeliveriesFit, ArrivalsFit, NodesHold};
+ghost use Rattle.chip_laws.specs.Meetings.{ArrivalsFit, DeliveriesFit, NodesHold, UnitsFit, UnitsKeepShape};
 ghost use Rattle.chip_laws.specs.ReadyUnits.{WorksWhileNoneWaits};
-ghost use Rattle.chip_laws.specs.Parts.{UnitsFit, WritersHold, GetsAreSupplied};
+ghost use Rattle.chip_laws.specs.Parts.{WritersHold, GetsAreSupplied};
 
 /// The laws that a kind of core keeps. At run time it does nothing.
 pub fn behaviour_laws()
     ensures in_order { KeepsLaws in_order }
-
-    // Every event leaves units of the kind that such cores come to.
-    ensures units { (b : Behaviour) (laws : KeepsLaws b) (d : Doc) (s new : ChipState) (event : Event)
-        → UnitsFit b laws s → step b (chip_of d) s event ≡ Some new → UnitsFit b laws new }
+    ensures waits { (laws : KeepsLaws in_order) → WorksWhileNoneWaits in_order laws }
 {}
 
-/// Parts of what holds in every reachable state: they hold at the opening, and an event keeps each of them in a state in which
-/// the protocol's invariant holds. At run time it does nothing.
-pub fn event_laws()
-    // Each node by itself and with its interface: its shape, what it has outstanding, who waits for its demand.
-    ensures nodes { (b : Behaviour) (laws : KeepsLaws b) (d : Doc) (s new : ChipState) (event : Event)
-        → DocFits d → ProtocolHolds d s → UnitsFit b laws s → DeliveriesFit d s → ArrivalsFit s
+/// The units of a chip, whatever its cores are: what holds of each before any event, and after every event. At run time
+/// it does nothing.
+pub fn unit_laws()
+    // Each is one that its kind of core comes to.
+    ensures opened { (b : Behaviour) (laws : KeepsLaws b) (d : Doc) → DocFits d → UnitsFit b laws (opening d) }
+    ensures kept { (b : Behaviour) (laws : KeepsLaws b) (chip : Chip) (s new : ChipState) (event : Event) → UnitsFit b laws s
+        → step b chip s event ≡ Some new → UnitsFit b laws new }
+
+    // At the opening each runs its tile's program, on a core of eight registers.
+    ensures shaped { (d : Doc) → UnitsKeepShape d (opening d) }
+{}
+
+/// The nodes of a chip, each by itself and with its interface: its shape, what it has outstanding, who waits for its
+/// demand. At run time it does nothing.
+pub fn node_event_laws()
+    ensures opened { (d : Doc) → NodesHold d (opening d) }
+    ensures stepped { (b : Behaviour) (laws : KeepsLaws b) (d : Doc) (s new : ChipState) (event : Event) → DocFits d
+        → ProtocolHolds d s → UnitsFit b laws s → DeliveriesFit d s → ArrivalsFit s
         → step b (chip_of d) s event ≡ Some new → NodesHold d new }
 
-    // Who owns each line and who may write it, and that accesses are made in time.
+    // A request of the tile itself that is delivered is the one of what its node waits for.
+    ensures own { (d : Doc) (s : ChipState) (t : ℕ) (unit : UnitState) (q : Request) (net : OrderedNetwork)
+        → ProtocolHolds d s → DeliveriesFit d s → slice_get s.units t ≡ Some unit
+        → after_delivery (chip_of d) s.network t ≡ Some (q, net) → OwnRequestFits unit.node.tile unit.node.side q }
+{}
+
+/// In-order cores: a demand waits for the access that comes next, and accesses come in the order of the program. At run
+/// time it does nothing.
+pub fn core_order_laws()
+    ensures opened { (d : Doc) → CoresInOrder (opening d) }
+    ensures stepped { (d : Doc) (s new : ChipState) (event : Event) → ProtocolHolds d s → CoresInOrder s
+        → step in_order (chip_of d) s event ≡ Some new → CoresInOrder new }
+{}
+
+/// The nodes of a chip against the order: who owns each line, who may write it, when accesses are made, and who answers
+/// each get. At run time it does nothing.
+pub fn order_laws()
+    // Ownership, writers, and that accesses are made in time.
     ensures writers_opened { (d : Doc) → WritersHold d (opening d) }
     ensures writers { (b : Behaviour) (laws : KeepsLaws b) (d : Doc) (s new : ChipState) (event : Event)
         → WorksWhileNoneWaits b laws → ProtocolHolds d s → UnitsFit b laws s → DeliveriesFit d s

@@ -3,4 +3,4 @@
 
 mod laws;
 
-pub use laws::{behaviour_laws, event_laws};
+pub use laws::{behaviour_laws, core_order_laws, node_event_laws, order_laws, unit_laws};

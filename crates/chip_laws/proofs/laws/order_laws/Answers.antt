@@ -1,12 +1,10 @@
-use Rattle.chip_model.specs.Chip.{chip_of}
 use Rattle.chip_laws.proofs.ProtocolWriters.{writers_hold, writers_open}
 use Rattle.chip_laws.proofs.SuppliedOpening.{supplied_opening}
-use Rattle.chip_laws.proofs.WholeSteps.{delivers_next, nodes_after, supplied_after}
-use Rattle.chip_laws.proofs.laws.event_laws.Goals as goal
+use Rattle.chip_laws.proofs.WholeSteps.{delivers_next, supplied_after}
+use Rattle.chip_laws.proofs.laws.order_laws.Goals as goal
 
 pub returns : goal.returns
 returns c = record {
-  nodes = nodes_after;
   writers_opened = writers_open;
   writers = λ b laws d s new event waits holds fit next e. writers_hold d b laws s new event waits holds fit (delivers_next d s holds next) e;
   supplied_opened = supplied_opening;

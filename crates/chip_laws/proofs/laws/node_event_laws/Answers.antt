@@ -1,0 +1,15 @@
+use Rattle.chip_model.specs.Chip.{chip_of}
+use Rattle.chip_laws.proofs.EventSteps.{event_does}
+use Rattle.chip_laws.proofs.Opening.{nodes_opened}
+use Rattle.chip_laws.proofs.NodeEvents.{nodes_hold}
+use Rattle.chip_laws.proofs.Calls.{own_requests_fit}
+use Rattle.chip_laws.proofs.laws.node_event_laws.Goals as goal
+
+pub returns-clause-opened : goal.returns-clause-opened
+returns-clause-opened c = nodes_opened
+
+pub returns-clause-stepped : goal.returns-clause-stepped
+returns-clause-stepped c = λ b laws d s new event fits holds fit next arrive e. nodes_hold b laws d s new event fits holds fit next arrive (event_does b (chip_of d) s new event e)
+
+pub returns-clause-own : goal.returns-clause-own
+returns-clause-own c = own_requests_fit
