@@ -47,3 +47,5 @@ pub mod InOrderCores
 pub mod InOrderEvents
 pub mod Opening
 pub mod Calls
+pub mod Deliveries
+pub mod WaitingAccesses

@@ -4,3 +4,4 @@ pub mod InOrderUnits
 pub mod Meetings
 pub mod ReadyUnits
 pub mod Parts
+pub mod WaitingAccesses

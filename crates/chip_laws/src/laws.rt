@@ -38,12 +38,13 @@ pub fn unit_laws()
 pub fn node_event_laws()
     ensures opened { (d : Doc) → NodesHold d (opening d) }
     ensures stepped { (b : Behaviour) (laws : KeepsLaws b) (d : Doc) (s new : ChipState) (event : Event) → DocFits d
-        → ProtocolHolds d s → UnitsFit b laws s → DeliveriesFit d s → ArrivalsFit s
+        → ProtocolHolds d s → UnitsFit b laws s → ArrivalsFit s
         → step b (chip_of d) s event ≡ Some new → NodesHold d new }
 
-    // A request of the tile itself that is delivered is the one of what its node waits for.
-    ensures own { (d : Doc) (s : ChipState) (t : ℕ) (unit : UnitState) (q : Request) (net : OrderedNetwork)
-        → ProtocolHolds d s → DeliveriesFit d s → slice_get s.units t ≡ Some unit
+    // What a tile delivers is the next request of the order; its own is the one of what its node waits for.
+    ensures next { (d : Doc) (s : ChipState) → DocFits d → ProtocolHolds d s → DeliveriesFit d s }
+    ensures own { (d : Doc) (s : ChipState) (t : ℕ) (unit : UnitState) (q : Request) (net : OrderedNetwork) → DocFits d
+        → ProtocolHolds d s → slice_get s.units t ≡ Some unit
         → after_delivery (chip_of d) s.network t ≡ Some (q, net) → OwnRequestFits unit.node.tile unit.node.side q }
 {}
 
@@ -61,13 +62,13 @@ pub fn order_laws()
     // Ownership, writers, and that accesses are made in time.
     ensures writers_opened { (d : Doc) → WritersHold d (opening d) }
     ensures writers { (b : Behaviour) (laws : KeepsLaws b) (d : Doc) (s new : ChipState) (event : Event)
-        → WorksWhileNoneWaits b laws → ProtocolHolds d s → UnitsFit b laws s → DeliveriesFit d s
+        → WorksWhileNoneWaits b laws → DocFits d → ProtocolHolds d s → UnitsFit b laws s
         → step b (chip_of d) s event ≡ Some new → WritersHold d new }
 
     // Each get is answered from exactly one place.
     ensures supplied_opened { (d : Doc) → GetsAreSupplied d (opening d) }
     ensures supplied { (b : Behaviour) (laws : KeepsLaws b) (d : Doc) (s new : ChipState) (event : Event)
-        → DocFits d → ProtocolHolds d s → UnitsFit b laws s → DeliveriesFit d s
+        → DocFits d → ProtocolHolds d s → UnitsFit b laws s
         → step b (chip_of d) s event ≡ Some new → GetsAreSupplied d new }
 {
     // What a hop of a message does to the way that is left.

@@ -1,6 +1,8 @@
 //! Laws of the whole chip, proved over its definitions for every state. At run time they do nothing.
 #![tactic(auto)]
 
+mod accesses;
 mod laws;
 
+pub use accesses::access_laws;
 pub use laws::{behaviour_laws, core_order_laws, node_event_laws, order_laws, unit_laws};

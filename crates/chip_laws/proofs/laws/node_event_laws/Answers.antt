@@ -2,6 +2,7 @@ use Rattle.chip_model.specs.Chip.{chip_of}
 use Rattle.chip_laws.proofs.EventSteps.{event_does}
 use Rattle.chip_laws.proofs.Opening.{nodes_opened}
 use Rattle.chip_laws.proofs.NodeEvents.{nodes_hold}
+use Rattle.chip_laws.proofs.Deliveries.{deliveries_fit}
 use Rattle.chip_laws.proofs.Calls.{own_requests_fit}
 use Rattle.chip_laws.proofs.laws.node_event_laws.Goals as goal
 
@@ -9,7 +10,10 @@ pub returns-clause-opened : goal.returns-clause-opened
 returns-clause-opened c = nodes_opened
 
 pub returns-clause-stepped : goal.returns-clause-stepped
-returns-clause-stepped c = λ b laws d s new event fits holds fit next arrive e. nodes_hold b laws d s new event fits holds fit next arrive (event_does b (chip_of d) s new event e)
+returns-clause-stepped c = λ b laws d s new event fits holds fit arrive e. nodes_hold b laws d s new event fits holds fit (deliveries_fit d s fits holds) arrive (event_does b (chip_of d) s new event e)
 
 pub returns-clause-own : goal.returns-clause-own
-returns-clause-own c = own_requests_fit
+returns-clause-own c = λ d s t unit q net fits holds at delivers. own_requests_fit d s t unit q net holds (deliveries_fit d s fits holds) at delivers
+
+pub returns-clause-next : goal.returns-clause-next
+returns-clause-next c = deliveries_fit

@@ -1,3 +1,4 @@
+use Rattle.chip_laws.proofs.Deliveries.{deliveries_fit}
 use Rattle.chip_laws.proofs.ProtocolWriters.{writers_hold, writers_open}
 use Rattle.chip_laws.proofs.SuppliedOpening.{supplied_opening}
 use Rattle.chip_laws.proofs.WholeSteps.{delivers_next, supplied_after}
@@ -6,7 +7,7 @@ use Rattle.chip_laws.proofs.laws.order_laws.Goals as goal
 pub returns : goal.returns
 returns c = record {
   writers_opened = writers_open;
-  writers = λ b laws d s new event waits holds fit next e. writers_hold d b laws s new event waits holds fit (delivers_next d s holds next) e;
+  writers = λ b laws d s new event waits fits holds fit e. writers_hold d b laws s new event waits holds fit (delivers_next d s holds (deliveries_fit d s fits holds)) e;
   supplied_opened = supplied_opening;
-  supplied = supplied_after c.route_laws.ensures.nearer;
+  supplied = λ b laws d s new event fits holds fit e. supplied_after c.route_laws.ensures.nearer b laws d s new event fits holds fit (deliveries_fit d s fits holds) e;
 }

@@ -1,0 +1,5 @@
+//! Tests of the public calls of units.
+#![tactic(auto)]
+
+#[cfg(test)]
+mod units;
