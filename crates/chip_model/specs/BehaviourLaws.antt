@@ -1,5 +1,5 @@
 -- The laws of a behaviour: what a core event, a delivery and data may do to a unit, whatever kind of core it has.
-use Rattle.std.specs.Prelude.{◌≡◌, ◌⊎◌, ℕ, ◌*◌, ◌<◌, ◌≤◌, Bool, true, false, ◌||◌, List, [], ◌∷◌, ◌++◌, Option, Some, None, IfSome}
+use Rattle.std.specs.Prelude.{◌≡◌, ◌⊎◌, ℕ, ◌*◌, ◌<◌, ◌≤◌, Bool, true, false, ◌||◌, List, [], ◌∷◌, ◌++◌, length, Option, Some, None, IfSome}
 use Rattle.mesh_gen.specs.declared.request.Request.{Request}
 use Rattle.mesh_gen.specs.declared.msg.Msg.{Msg}
 use Rattle.core_isa.specs.declared.instr.Instr.{Instr}
@@ -43,6 +43,7 @@ pub record Buffers (old new : UnitState) : Type 0 where
 pub record SameUnit (old new : UnitState) : Type 0 where
   pub program : new.program ≡ old.program
   pub tile : new.core.tile ≡ old.core.tile
+  pub registers : length new.core.registers ≡ length old.core.registers
   pub steps : old.core.steps ≤ new.core.steps
 
 -- the node performed an access, and the unit answers it as its own; or it performed none, and the unit answers none
@@ -56,10 +57,12 @@ pub record GoesOn (unit : UnitState) (step : Performed) (acted : Acted) : Type 0
   pub node : acted.0.node ≡ step.0
   pub answers : Answers unit acted.0 step.1 acted.1
 
--- a core event without the node: a read of a buffered store is no access of the node, and has the time of a hit
+-- a core event without the node: a read of a buffered store is no access of the node, and has the time of a hit, since no
+-- demand of the core waits
 pub record WorksAlone (unit : UnitState) (acted : Acted) : Type 0 where
   pub same : SameUnit unit acted.0
   pub node : acted.0.node ≡ unit.node
+  pub no_demand : unit.node.side.misses.demand ≡ None
   pub reads : IfSome acted.1 (λ a. (writes a.kind ≡ false) × (a.tile ≡ unit.node.tile) × (a.time ≡ unit.node.delivered) × IsOfCore unit acted.0 a)
   pub buffers : acted.1 ≡ None → (acted.0.buffered ≡ unit.buffered) ⊎ Buffers unit acted.0
 

@@ -170,7 +170,7 @@ pub a_stale_write_back_ends_without_a_word :
 unfolding set_number lookup has_room installed without_line without_shared lowest_for wanted marked_sent holding after_snoop after_data answered back_arrived node_after_access node_after_request node_after_message after_request_sent after_message_sent
 a_stale_write_back_ends_without_a_word = (refl, refl, refl, (refl, refl, refl))
 
--- A miss goes on beside the write-back that made space for it.
+-- A miss goes on beside the write-back of its victim.
 abbrev pub missing_beside : Node
 missing_beside = asked Load 4 0 writing_back
 

@@ -8,4 +8,4 @@ mod unit;
 mod work;
 
 pub use in_order::InOrder;
-pub use unit::{Unit, unit_laws};
+pub use unit::{Unit, kind_laws};

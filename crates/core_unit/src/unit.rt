@@ -97,6 +97,6 @@ pub trait Unit: Sized + Send + Drop {
 }
 
 /// The laws of every kind of unit. At run time it does nothing.
-pub fn unit_laws<U: Unit>()
+pub fn kind_laws<U: Unit>()
     ensures { KeepsLaws U.behaviour }
 {}

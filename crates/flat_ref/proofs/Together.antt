@@ -8,7 +8,7 @@ use Rattle.core_isa.specs.Core.{CoreState}
 use Rattle.report_text.specs.declared.access.Access.{Access}
 use Rattle.flat_ref.specs.declared.flat.Flat.{Flat}
 use Rattle.flat_ref.specs.Taking.{◌>>=◌, flat_of, made_by, taken_all}
-use Rattle.flat_ref.specs.Order.{last_stored}
+use Rattle.flat_ref.specs.Order.{last_written}
 use Rattle.flat_ref.specs.Consistency.{accesses_of, made_all, ReadsLast}
 use Rattle.flat_ref.proofs.Runs.{taken_all_none, taken_all_cons}
 use Rattle.flat_ref.proofs.Takings.{taken_by_sides}
@@ -59,9 +59,9 @@ cores_after words programs old new a rest f others t program core is_program is_
       | inr other ↦ run_other words program core t a rest (λ e. other (sym e)) ∙ others t program core is_program (slice_get-set_other old.cores t a.tile f.after other ∙ is_core)
     ]
 
-reads_after : (memory words : List ℕ) (a : Access) (rest : List Access) → ((address : ℕ) → get_or words address 0 ≡ last_stored address (get_or memory address 0) (a ∷ [])) → ReadsLast memory (a ∷ rest) → ReadsLast words rest
+reads_after : (memory words : List ℕ) (a : Access) (rest : List Access) → ((address : ℕ) → get_or words address 0 ≡ last_written address (get_or memory address 0) (a ∷ [])) → ReadsLast memory (a ∷ rest) → ReadsLast words rest
 reads_after memory words a rest word reads before behind b e is_read =
-    reads (a ∷ before) behind b (ap (λ (xs : List Access). a ∷ xs) e) is_read ∙ ap (λ (w : ℕ). last_stored b.address w before) (sym (word b.address))
+    reads (a ∷ before) behind b (ap (λ (xs : List Access). a ∷ xs) e) is_read ∙ ap (λ (w : ℕ). last_written b.address w before) (sym (word b.address))
 
 -- accesses that each core makes alone, and that read what was written last, are taken together
 pub together : (words : ℕ) (programs : List (List Instr)) (old : Flat) (accesses : List Access) → words ≡ length old.memory → 0 < words → length old.cores ≡ length programs → AllByRecursion (λ a. a.tile < length programs) accesses → RunsAlone words programs old.cores accesses → ReadsLast old.memory accesses → Together words programs old accesses

@@ -9,7 +9,7 @@ use Rattle.report_text.specs.declared.access.Access.{Access}
 use Rattle.report_text.specs.Accesses.{reads, writes, read_by}
 use Rattle.flat_ref.specs.declared.flat.Flat.{Flat}
 use Rattle.flat_ref.specs.Taking.{taken, taken_all}
-use Rattle.flat_ref.specs.Order.{IsLoadOf, IsAccessOf, word_by, last_stored}
+use Rattle.flat_ref.specs.Order.{IsLoadOf, IsAccessOf, word_by, last_written}
 use Rattle.flat_ref.proofs.Runs.{taken_all_none, taken_all_cons, taken_all-append}
 use Rattle.flat_ref.proofs.Takings.{Counted, Received, takes}
 
@@ -64,7 +64,7 @@ writes_value counted received programs old new a some e is_write =
 -- after the accesses each word is what was last stored in it
 pub record HoldsLast (old new : List ℕ) (accesses : List Access) : Type 0 where
   pub as_long : length new ≡ length old
-  pub words : (address : ℕ) → get_or new address 0 ≡ last_stored address (get_or old address 0) accesses
+  pub words : (address : ℕ) → get_or new address 0 ≡ last_written address (get_or old address 0) accesses
 
 pub holds_last : Counted → Received → (programs : List (List Instr)) (old new : Flat) (accesses : List Access) → 0 < length old.memory → taken_all programs old accesses ≡ Some new → HoldsLast old.memory new.memory accesses
 holds_last counted received programs old new [] some e =
@@ -79,7 +79,7 @@ holds_last counted received programs old new (a ∷ rest) some e =
     let last = holds_last counted received programs next new rest (omega (arith, first.as_long)) others in
     record {
       as_long = last.as_long ∙ first.as_long;
-      words = λ address. last.words address ∙ ap (λ (word : ℕ). last_stored address word rest) (first.words address);
+      words = λ address. last.words address ∙ ap (λ (word : ℕ). last_written address word rest) (first.words address);
     })
 
 -- an access that reads received the word that was there
@@ -91,7 +91,7 @@ read_value program ready after old new a is_read (inr (inr (inl s))) = rw s.kind
 read_value program ready after old new a is_read (inr (inr (inr s))) = rw s.kind s.before
 
 -- it received the value that was last written at its address before it
-pub reads_last : Counted → Received → (programs : List (List Instr)) (flat after : Flat) (before rest : List Access) (a : Access) → 0 < length flat.memory → taken_all programs flat (before ++ a ∷ rest) ≡ Some after → reads a.kind ≡ true → read_by a ≡ last_stored a.address (get_or flat.memory a.address 0) before
+pub reads_last : Counted → Received → (programs : List (List Instr)) (flat after : Flat) (before rest : List Access) (a : Access) → 0 < length flat.memory → taken_all programs flat (before ++ a ∷ rest) ≡ Some after → reads a.kind ≡ true → read_by a ≡ last_written a.address (get_or flat.memory a.address 0) before
 reads_last counted received programs flat after before rest a some e is_read =
     option_and_then_some (λ mid. taken_all programs mid (a ∷ rest)) (taken_all programs flat before) after (sym (taken_all-append programs flat before (a ∷ rest)) ∙ e) (λ mid earlier later.
     option_and_then_some (λ next. taken_all programs next rest) (taken programs mid a) after (sym (taken_all_cons programs mid a rest) ∙ later) (λ next one others.

@@ -7,7 +7,7 @@ use Rattle.core_isa.specs.Core.{CoreState, new_core}
 use Rattle.report_text.specs.declared.access.Access.{Access}
 use Rattle.report_text.specs.Accesses.{reads, read_by}
 use Rattle.flat_ref.specs.Taking.{◌>>=◌, core_at, made_by}
-use Rattle.flat_ref.specs.Order.{last_stored}
+use Rattle.flat_ref.specs.Order.{last_written}
 
 -- the accesses of a tile, in their order
 abbrev pub accesses_of : ℕ → List Access → List Access
@@ -25,7 +25,7 @@ run_alone words program core accesses number = made_all words program core acces
 -- there at first
 abbrev pub ReadsLast : List ℕ → List Access → Type 0
 ReadsLast memory accesses =
-    (before rest : List Access) (a : Access) → accesses ≡ before ++ a ∷ rest → reads a.kind ≡ true → read_by a ≡ last_stored a.address (slice_index memory a.address) before
+    (before rest : List Access) (a : Access) → accesses ≡ before ++ a ∷ rest → reads a.kind ≡ true → read_by a ≡ last_written a.address (slice_index memory a.address) before
 
 -- each core alone makes its own accesses and gets to its number of steps, and reads the words that were
 -- written last

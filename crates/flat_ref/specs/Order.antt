@@ -81,5 +81,5 @@ abbrev pub word_by : ℕ → Access → ℕ → ℕ
 word_by address a word = if writes a.kind && (a.address == address) then a.value else word
 
 -- the value of the last write to the address among the accesses, or this word where there is none
-abbrev pub last_stored : ℕ → ℕ → List Access → ℕ
-last_stored address word accesses = fold (λ before a. word_by address a before) word accesses
+abbrev pub last_written : ℕ → ℕ → List Access → ℕ
+last_written address word accesses = fold (λ before a. word_by address a before) word accesses

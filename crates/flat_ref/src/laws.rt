@@ -6,7 +6,7 @@ ghost use Rattle.flat_ref.specs.declared.flat.Flat.{Flat};
 ghost use Rattle.flat_ref.specs.Taking.{taken, taken_all};
 ghost use Rattle.flat_ref.specs.Execution.{executed_from, executed, flat_memory, IsExecution};
 ghost use Rattle.flat_ref.specs.Consistency.{IsConsistent};
-ghost use Rattle.flat_ref.specs.Order.{Takes, last_stored};
+ghost use Rattle.flat_ref.specs.Order.{Takes, last_written};
 
 /// What lists of accesses that can be taken have in common, in the terms of memory models. At run time it does nothing.
 pub fn order_laws()
@@ -23,7 +23,7 @@ pub fn order_laws()
     // there at first.
     ensures reads { (programs : List (List Instr)) (flat after : Flat) (before rest : List Access) (a : Access)
         → 0 < length flat.memory → taken_all programs flat (before ++ a ∷ rest) ≡ Some after → reads a.kind ≡ true
-        → read_by a ≡ last_stored a.address (slice_index flat.memory a.address) before }
+        → read_by a ≡ last_written a.address (slice_index flat.memory a.address) before }
 
     // The value of one that writes is the word from then on.
     ensures writes { (programs : List (List Instr)) (old new : Flat) (a : Access)
@@ -33,7 +33,7 @@ pub fn order_laws()
     // Memory then holds what was last written at each address.
     ensures memory { (programs : List (List Instr)) (flat after : Flat) (accesses : List Access) (address : ℕ)
         → 0 < length flat.memory → taken_all programs flat accesses ≡ Some after
-        → slice_index after.memory address ≡ last_stored address (slice_index flat.memory address) accesses }
+        → slice_index after.memory address ≡ last_written address (slice_index flat.memory address) accesses }
 
     // An execution is a list in which each core alone makes its own accesses and reads what was written last.
     ensures parts { (programs : List (List Instr)) (memory steps : List ℕ) (accesses : List Access)

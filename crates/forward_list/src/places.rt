@@ -1,4 +1,4 @@
-//! What a place of a list holds. A place that is not used holds a space, which nothing reads.
+//! What a place of a list holds. A place that is not used holds a value that nothing reads.
 ghost use Rattle.std.specs.Prelude.{◌≡◌};
 ghost use Rattle.chip_model.specs.Misses.{is_getm};
 ghost use Rattle.chip_model.specs.Node.{is_back};
