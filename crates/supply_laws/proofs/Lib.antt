@@ -1,2 +1,3 @@
 pub mod LastPlaces
 pub mod WriteBackPlaces
+pub mod WriteBackCounts
