@@ -1,3 +1,4 @@
 pub mod LastPlaces
+pub mod OwnerGets
 pub mod WriteBackPlaces
 pub mod WriteBackCounts

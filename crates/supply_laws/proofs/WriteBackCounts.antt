@@ -1,6 +1,6 @@
 -- The requests that are still to write a line back, counted over the places of the order: one less where the tile of such
 -- a request delivers it, and as many more as there are in what the order grows by.
-use Rattle.std.proofs.Common.{◌≡◌, ◌≢◌, ℕ, zero, suc, ◌+◌, ◌<◌, ◌≤◌, Bool, true, false, cond, List, [], ◌∷◌, ◌++◌, length, length-append, refl, sym, ◌∙◌, ap, arith, inl, inr, Option, Some, None}
+use Rattle.std.proofs.Common.{◌≡◌, ◌≢◌, ℕ, ◌+◌, ◌<◌, ◌≤◌, Bool, true, false, cond, List, [], ◌∷◌, ◌++◌, length, length-append, refl, sym, ◌∙◌, ap, arith, inl, inr, Option, Some, None}
 use Rattle.std.specs.Prelude.{◌==◌, ◌&&◌, nat_le, filter, slice_get}
 use Rattle.std.specs.List.{count_by}
 use Rattle.std.proofs.lemmas.Bool.{cases_eq, le-leb, eq-eqb, ne_eqb}
@@ -10,11 +10,12 @@ use Rattle.mesh_gen.specs.declared.request.Request.{Request}
 use Rattle.mesh_gen.specs.Ports.{count_if}
 use Rattle.order_tracker.specs.Order.{upwards}
 use Rattle.chip_model.specs.ChipState.{ChipState}
-use Rattle.chip_model.specs.Suppliers.{delivered_at, writes_back, places_written_back, is_undelivered_at, is_undelivered, write_backs_to_come}
-use Rattle.net_iface.proofs.Named.{slice_get-append_left, slice_get-append_right}
+use Rattle.chip_model.specs.Suppliers.{delivered_at, writes_back, is_undelivered_at, is_undelivered, write_backs_to_come}
+use Rattle.net_iface.proofs.Named.{slice_get-append_left}
 use Rattle.chip_laws.proofs.SupplyCounts.{count_by-cons, count_by-append, count_by-same, count_by-one, upwards-append}
 use Rattle.chip_laws.proofs.SupplyToCome.{Delivers}
-use Rattle.supply_laws.proofs.WriteBackPlaces.{writes_back_grown, writes_back_within, writes_back_at}
+use Rattle.supply_laws.proofs.OwnerGets.{back_of}
+use Rattle.supply_laws.proofs.WriteBackPlaces.{writes_back_grown}
 
 -- the tile of a request has not delivered it, by what each tile has delivered
 abbrev pub waits_at : (ℕ → ℕ) → ℕ → Option Request → Bool
@@ -135,5 +136,5 @@ to_write_grown count line ordered more within =
     beyond : (k : ℕ) → length ordered ≤ k → (b : Bool) → writes_back line (ordered ++ more) k ≡ b → (b && waits_at count k (slice_get (ordered ++ more) k)) ≡ b
     beyond k above false is = refl
     beyond k above true is =
-        let w = writes_back_at line (ordered ++ more) k is in
-        ap (waits_at count k) w.at ∙ le-leb (count w.request.source) k (let some = within w.request.source in omega (arith, some, above))
+        let w = back_of line k (ordered ++ more) is in
+        ap (waits_at count k) w.at ∙ le-leb (count w.put.source) k (let some = within w.put.source in omega (arith, some, above))

@@ -1,8 +1,8 @@
 -- Which requests write a line back: along an order that grows, in its prefixes, and who owns the line since the last one.
-use Rattle.std.proofs.Common.{◌≡◌, ℕ, zero, suc, ◌+◌, ◌<◌, ◌≤◌, Bool, true, false, cond, List, [], ◌∷◌, ◌++◌, length, take, drop, refl, sym, ◌∙◌, ap, subst, arith, inl, inr, Option, Some, None}
+use Rattle.std.proofs.Common.{◌≡◌, ℕ, zero, suc, ◌+◌, ◌<◌, ◌≤◌, Bool, true, false, cond, List, [], ◌∷◌, ◌++◌, length, take, drop, refl, sym, ◌∙◌, ap, subst, arith, Some}
 use Rattle.std.specs.Prelude.{◌==◌, ◌&&◌, ◌||◌, not, filter, slice_get}
 use Rattle.std.specs.List.{list_any}
-use Rattle.std.proofs.lemmas.Bool.{and_parts, both_ways, cases_lt, eqb-true, eq-eqb, not-true}
+use Rattle.std.proofs.lemmas.Bool.{eq-eqb}
 use Rattle.std.proofs.lemmas.List.{take-append-le, take-append-drop, length-take-le}
 use Rattle.std.proofs.lemmas.List.Elements.{filter-append}
 use Rattle.std.proofs.lemmas.Option.{slice_get_within}
@@ -19,7 +19,8 @@ use Rattle.chip_model.specs.Suppliers.{writes_back_as, writes_back, places_writt
 use Rattle.net_iface.proofs.Named.{slice_get-append_left}
 use Rattle.chip_laws.proofs.OrderLists.{between_next, between_none}
 use Rattle.chip_laws.proofs.OwnerFolds.{owner_next}
-use Rattle.supply_laws.proofs.LastPlaces.{LastIs, NextIs, NonePasses, last_is, last_agrees, next_is}
+use Rattle.supply_laws.proofs.OwnerGets.{back_of}
+use Rattle.supply_laws.proofs.LastPlaces.{LastIs, NextIs, last_is, last_agrees, next_is}
 
 -- ---- the order grows, and its prefixes
 pub writes_back_grown : (line : ℕ) (ordered more : List Request) (k : ℕ) → k < length ordered → writes_back line (ordered ++ more) k ≡ writes_back line ordered k
@@ -48,39 +49,8 @@ pub next_after : (line n : ℕ) (ordered : List Request) → NextIs (writes_back
 next_after line n ordered = next_is (writes_back line ordered) (length ordered) n
 
 -- ---- what a request that writes back is
-pub record WritesBackAt (line : ℕ) (ordered : List Request) (place : ℕ) : Type 0 where
-  pub request : Request
-  pub at : slice_get ordered place ≡ Some request
-  pub put : request.kind ≡ PutM
-  pub of_line : request.line ≡ line
-  pub owned : owner line (take place ordered) ≡ Tile request.source
-
-tile_is : (t : ℕ) (o : Owner) → is_tile t o ≡ true → o ≡ Tile t
-tile_is t Memory is = cc
-tile_is t (Tile u) is = ap (λ (v : ℕ). Tile v) (eqb-true u t is)
-
-no_get : (kind : Kind) → not (is_get kind) ≡ true → kind ≡ PutM
-no_get GetS is = cc
-no_get GetM is = cc
-no_get PutM is = refl
-
-pub writes_back_at : (line : ℕ) (ordered : List Request) (place : ℕ) → writes_back line ordered place ≡ true → WritesBackAt line ordered place
-writes_back_at line ordered place is = by (slice_get ordered place) refl is where
-  by : (entry : Option Request) → slice_get ordered place ≡ entry → writes_back_as line (owner line (take place ordered)) entry ≡ true → WritesBackAt line ordered place
-  by None at w = cc
-  by (Some q) at w =
-      let outer = and_parts (not (is_get q.kind) && (q.line == line)) (is_tile q.source (owner line (take place ordered))) w in
-      let inner = and_parts (not (is_get q.kind)) (q.line == line) outer.0 in
-      record {
-        request = q;
-        at = at;
-        put = no_get q.kind inner.0;
-        of_line = eqb-true q.line line inner.1;
-        owned = tile_is q.source (owner line (take place ordered)) outer.1;
-      }
-
 pub writes_back_within : (line : ℕ) (ordered : List Request) (place : ℕ) → writes_back line ordered place ≡ true → place < length ordered
-writes_back_within line ordered place is = let w = writes_back_at line ordered place is in slice_get_within ordered place w.request w.at
+writes_back_within line ordered place is = let w = back_of line place ordered is in slice_get_within ordered place w.put w.at
 
 -- ---- who owns the line since the last one: the memory until a GetM
 abbrev pub is_memory : Owner → Bool
@@ -173,12 +143,12 @@ some_at (x ∷ xs) (suc n) below = some_at xs n (omega (arith, below))
 owner_after_back : (line : ℕ) (ordered : List Request) (place : ℕ) → writes_back line ordered place ≡ true → owner line (take (place + 1) ordered) ≡ Memory
 unfolding owner_after
 owner_after_back line ordered place is =
-    let w = writes_back_at line ordered place is in
-    owner_next line place ordered w.request w.at
-    ∙ ap (λ (b : Bool). cond b (owner_by w.request.source w.request.kind (owner line (take place ordered))) (owner line (take place ordered))) (eq-eqb w.request.line line w.of_line)
-    ∙ ap (λ (k : Kind). owner_by w.request.source k (owner line (take place ordered))) w.put
-    ∙ ap (written_back w.request.source) w.owned
-    ∙ ap (λ (b : Bool). cond b Memory (Tile w.request.source)) (eq-eqb w.request.source w.request.source refl)
+    let w = back_of line place ordered is in
+    owner_next line place ordered w.put w.at
+    ∙ ap (λ (b : Bool). cond b (owner_by w.put.source w.put.kind (owner line (take place ordered))) (owner line (take place ordered))) (eq-eqb w.put.line line w.same)
+    ∙ ap (λ (k : Kind). owner_by w.put.source k (owner line (take place ordered))) w.kind
+    ∙ ap (written_back w.put.source) w.owned
+    ∙ ap (λ (b : Bool). cond b Memory (Tile w.put.source)) (eq-eqb w.put.source w.put.source refl)
 
 -- since a request that wrote back, the memory owns the line where no get since then is to write
 pub owner_since : (line place gap : ℕ) (ordered : List Request) → writes_back line ordered place ≡ true → place + 1 + gap ≤ length ordered
