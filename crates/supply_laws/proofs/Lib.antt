@@ -2,3 +2,4 @@ pub mod LastPlaces
 pub mod OwnerGets
 pub mod WriteBackPlaces
 pub mod WriteBackCounts
+pub mod WriteBackSends
