@@ -3,3 +3,4 @@ pub mod OwnerGets
 pub mod WriteBackPlaces
 pub mod WriteBackCounts
 pub mod WriteBackSends
+pub mod WordsDue
