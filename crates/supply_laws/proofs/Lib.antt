@@ -1,1 +1,2 @@
 pub mod OwnerGets
+pub mod GetPlaces
