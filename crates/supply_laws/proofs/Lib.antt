@@ -4,3 +4,4 @@ pub mod WriteBackPlaces
 pub mod WriteBackCounts
 pub mod WriteBackSends
 pub mod WordsDue
+pub mod GetPlaces
