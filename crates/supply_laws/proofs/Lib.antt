@@ -5,3 +5,4 @@ pub mod WriteBackCounts
 pub mod WriteBackSends
 pub mod WordsDue
 pub mod GetPlaces
+pub mod UndeliveredRequests
