@@ -6,3 +6,4 @@ pub mod WriteBackSends
 pub mod WordsDue
 pub mod GetPlaces
 pub mod UndeliveredRequests
+pub mod NewWriteBacks
