@@ -7,3 +7,4 @@ pub mod WordsDue
 pub mod GetPlaces
 pub mod UndeliveredRequests
 pub mod NewWriteBacks
+pub mod MemoryReached
