@@ -8,3 +8,4 @@ pub mod GetPlaces
 pub mod UndeliveredRequests
 pub mod NewWriteBacks
 pub mod MemoryReached
+pub mod WriteBackEvents
