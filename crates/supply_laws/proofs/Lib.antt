@@ -9,3 +9,4 @@ pub mod UndeliveredRequests
 pub mod NewWriteBacks
 pub mod MemoryReached
 pub mod WriteBackEvents
+pub mod ReachedWords
