@@ -10,3 +10,5 @@ pub mod NewWriteBacks
 pub mod MemoryReached
 pub mod WriteBackEvents
 pub mod ReachedWords
+pub mod AnsweredHomes
+pub mod AnsweredLines

@@ -19,6 +19,7 @@ use Rattle.chip_model.specs.Suppliers.{writes_back_as, writes_back, places_writt
 use Rattle.net_iface.proofs.Named.{slice_get-append_left}
 use Rattle.chip_laws.proofs.OrderLists.{between_next, between_none}
 use Rattle.chip_laws.proofs.OwnerFolds.{owner_next}
+use Rattle.chip_laws.proofs.SupplyAccounts.{is_memory}
 use Rattle.supply_laws.proofs.OwnerGets.{back_of}
 use Rattle.supply_laws.proofs.LastPlaces.{LastIs, NextIs, last_is, last_agrees, next_is}
 
@@ -53,10 +54,6 @@ pub writes_back_within : (line : ℕ) (ordered : List Request) (place : ℕ) →
 writes_back_within line ordered place is = let w = back_of line place ordered is in slice_get_within ordered place w.put w.at
 
 -- ---- who owns the line since the last one: the memory until a GetM
-abbrev pub is_memory : Owner → Bool
-is_memory Memory = true
-is_memory (Tile tile) = false
-
 -- the gets for a line
 abbrev pub gets_for : ℕ → List Request → List Request
 gets_for line requests = filter (λ (q : Request). is_get q.kind && (q.line == line)) requests
