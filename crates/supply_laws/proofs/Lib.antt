@@ -12,3 +12,4 @@ pub mod WriteBackEvents
 pub mod ReachedWords
 pub mod AnsweredHomes
 pub mod AnsweredLines
+pub mod ReturnedHomes
