@@ -13,3 +13,5 @@ pub mod ReachedWords
 pub mod AnsweredHomes
 pub mod AnsweredLines
 pub mod ReturnedHomes
+pub mod LaterBacks
+pub mod HomeEvents
