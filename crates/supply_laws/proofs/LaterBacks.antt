@@ -1,15 +1,13 @@
 -- After a GetM that is not complete no request writes its line back; and a GetM that memory supplies is one, where its
 -- home delivers it.
-use Rattle.std.proofs.Common.{◌≡◌, ◌≢◌, ℕ, ◌+◌, ◌<◌, ◌≤◌, Bool, true, false, List, length, take, refl, sym, ◌∙◌, ap, subst, arith, inl, inr, Some, None}
-use Rattle.std.specs.Prelude.{◌==◌, ◌&&◌, nat_le, slice_get, slice_index_or, is_some}
+use Rattle.std.proofs.Common.{◌≡◌, ◌≢◌, ℕ, ◌<◌, ◌≤◌, true, false, List, take, refl, sym, ◌∙◌, ap, subst, arith, inl, inr, Some, None}
+use Rattle.std.specs.Prelude.{◌==◌, nat_le, slice_get, slice_index_or, is_some}
 use Rattle.std.proofs.lemmas.Bool.{cases_lt, cases_eq, false_from_ne_true, le-leb, eqb-true, eq-eqb, and_from}
 use Rattle.std.proofs.lemmas.Option.{same_Some}
-use Rattle.mesh_gen.specs.declared.kind.Kind.{Kind}
-use Rattle.mesh_gen.specs.declared.kind.Kind.TheVariants.{GetM, PutM}
+use Rattle.mesh_gen.specs.declared.kind.Kind.TheVariants.{GetM}
 use Rattle.mesh_gen.specs.declared.request.Request.{Request}
 use Rattle.doc_text.specs.Doc.{Doc}
-use Rattle.chip_model.specs.declared.owner.Owner.{Owner}
-use Rattle.chip_model.specs.declared.owner.Owner.TheVariants.{Memory, Tile}
+use Rattle.chip_model.specs.declared.owner.Owner.TheVariants.{Memory}
 use Rattle.chip_model.specs.Chip.{Chip, chip_of, home}
 use Rattle.chip_model.specs.Records.{LineRecord}
 use Rattle.chip_model.specs.Units.{UnitState}
@@ -17,7 +15,7 @@ use Rattle.chip_model.specs.ChipState.{ChipState}
 use Rattle.chip_model.specs.Ownership.{owner}
 use Rattle.chip_model.specs.Bookkeeping.{is_get, is_get_of}
 use Rattle.chip_model.specs.ChipInvariant.{ProtocolHolds}
-use Rattle.chip_model.specs.Suppliers.{count_of, delivered_at, supplier, is_to_come_at, is_to_come, place_of_get, writes_back, GetsWait}
+use Rattle.chip_model.specs.Suppliers.{count_of, delivered_at, supplier, is_to_come_at, is_to_come, place_of_get, writes_back}
 use Rattle.chip_laws.specs.DocFits.{DocFits}
 use Rattle.chip_laws.proofs.RequestsInside.{tile_of, source_inside}
 use Rattle.chip_laws.proofs.SuppliedEvents.{Holds}

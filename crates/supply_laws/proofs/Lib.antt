@@ -15,3 +15,4 @@ pub mod AnsweredLines
 pub mod ReturnedHomes
 pub mod LaterBacks
 pub mod HomeEvents
+pub mod HomesOpened

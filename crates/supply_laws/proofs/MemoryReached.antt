@@ -1,16 +1,14 @@
 -- The words of each request that writes a line back reach memory, by one message: where the order stays, and where it grows.
-use Rattle.std.proofs.Common.{◌≡◌, ◌≢◌, ℕ, ◌+◌, ◌<◌, ◌≤◌, Bool, true, false, List, ◌++◌, length, length-append, refl, sym, ◌∙◌, ap, subst, arith, inl, inr, Option, Some, None}
-use Rattle.std.specs.Prelude.{is_some, slice_get, nat_le, ◌&&◌}
-use Rattle.std.specs.List.{count_by}
+use Rattle.std.proofs.Common.{◌≡◌, ℕ, ◌+◌, ◌<◌, ◌≤◌, Bool, true, List, ◌++◌, length, length-append, sym, ◌∙◌, ap, subst, arith, inl, inr, Option, Some, None}
+use Rattle.std.specs.Prelude.{is_some, slice_get}
 use Rattle.std.proofs.lemmas.Bool.{both_ways, cases_lt, cases_eq, leb-true, le-leb, and_from}
 use Rattle.mesh_gen.specs.declared.request.Request.{Request}
-use Rattle.order_tracker.specs.Order.{upwards}
 use Rattle.chip_model.specs.Units.{UnitState}
 use Rattle.chip_model.specs.ChipState.{ChipState}
-use Rattle.chip_model.specs.Suppliers.{count_of, delivered_at, writes_back, last_written_back, is_undelivered_at, is_undelivered, write_backs_to_come, ReachesMemory, GetsWait}
+use Rattle.chip_model.specs.Suppliers.{count_of, delivered_at, writes_back, last_written_back, is_undelivered_at, is_undelivered, ReachesMemory, GetsWait}
 use Rattle.net_iface.proofs.Named.{slice_get-append_left}
 use Rattle.chip_laws.proofs.WaitsToCome.{count_by-some}
-use Rattle.supply_laws.proofs.LastPlaces.{IsLastOf, LastIs, NonePasses, last_agrees, last_unique, count_none, count_only}
+use Rattle.supply_laws.proofs.LastPlaces.{LastIs, NonePasses, last_agrees, last_unique, count_none, count_only}
 use Rattle.supply_laws.proofs.WriteBackPlaces.{writes_back_grown, writes_back_within, last_of_all}
 use Rattle.supply_laws.proofs.WriteBackCounts.{waits_at, is_to_write_back, to_come_is}
 use Rattle.supply_laws.proofs.WordsDue.{due, due_grown}

@@ -1,13 +1,10 @@
 -- The order grows: at most one of its new requests writes a line back, and none does while words are due from an earlier one.
-use Rattle.std.proofs.Common.{◌≡◌, ◌≢◌, ℕ, ◌+◌, ◌<◌, ◌≤◌, Bool, true, false, List, [], ◌++◌, length, length-append, refl, sym, ◌∙◌, ap, subst, arith, inl, inr, Option, Some, None}
+use Rattle.std.proofs.Common.{◌≡◌, ◌≢◌, ℕ, ◌+◌, ◌<◌, ◌≤◌, true, false, List, ◌++◌, length, refl, sym, ◌∙◌, ap, subst, arith, inl, inr, Option, Some, None}
 use Rattle.std.specs.Prelude.{is_some, slice_get}
-use Rattle.std.specs.List.{count_by}
 use Rattle.std.proofs.lemmas.Bool.{both_ways, cases_lt, cases_eq, false≢true, false_from_ne_true}
-use Rattle.std.proofs.lemmas.Option.{same_Some, slice_get_within}
-use Rattle.mesh_gen.specs.declared.kind.Kind.{Kind}
+use Rattle.std.proofs.lemmas.Option.{same_Some}
 use Rattle.mesh_gen.specs.declared.kind.Kind.TheVariants.{GetM, PutM}
 use Rattle.mesh_gen.specs.declared.request.Request.{Request}
-use Rattle.order_tracker.specs.Order.{upwards}
 use Rattle.chip_model.specs.Misses.{Demand}
 use Rattle.chip_model.specs.Units.{UnitState}
 use Rattle.chip_model.specs.ChipState.{ChipState}
@@ -16,11 +13,11 @@ use Rattle.chip_model.specs.Bookkeeping.{is_get, IsOrderedAt}
 use Rattle.chip_model.specs.Suppliers.{delivered_at, writes_back, last, last_written_back, ReachesMemory, GetsWait, IsOpen}
 use Rattle.net_iface.proofs.Named.{slice_get-append_left}
 use Rattle.chip_laws.proofs.Supplied.{Grows}
-use Rattle.supply_laws.proofs.LastPlaces.{IsLastOf, LastIs, NonePasses, passing, last_is, last_agrees, last_unique, count_none, count_only}
+use Rattle.supply_laws.proofs.LastPlaces.{LastIs, NonePasses, passing, last_is}
 use Rattle.supply_laws.proofs.OwnerGets.{OwnerGet, BackOf, owner_get, back_of}
 use Rattle.supply_laws.proofs.GetPlaces.{waits_at}
-use Rattle.supply_laws.proofs.WriteBackPlaces.{writes_back_grown, writes_back_within, last_of_all}
-use Rattle.supply_laws.proofs.WordsDue.{due, due_grown}
+use Rattle.supply_laws.proofs.WriteBackPlaces.{writes_back_grown, last_of_all}
+use Rattle.supply_laws.proofs.WordsDue.{due}
 use Rattle.supply_laws.proofs.UndeliveredRequests.{Asks, IsGetFor, IsPutFor, get_waits, put_waits, open_waits, not_both}
 
 -- a tile whose requests stand in the order before and after it grows

@@ -1,6 +1,6 @@
 -- Whether written-back words have reached memory, and what that says of a record at home: where the order stays or grows.
 use Rattle.std.proofs.Common.{◌≡◌, ◌≢◌, ℕ, ◌+◌, ◌<◌, ◌≤◌, Bool, true, false, cond, List, [], ◌++◌, length, length-append, take, refl, sym, ◌∙◌, ap, subst, arith, inl, inr, Option, Some, None}
-use Rattle.std.specs.Prelude.{◌==◌, ◌||◌, not, slice_get}
+use Rattle.std.specs.Prelude.{◌==◌, ◌||◌, not}
 use Rattle.std.proofs.lemmas.Bool.{both_ways, cases_lt, cases_eq, false≢true, or_left, or_right, or_parts, or_from, not-false, not_from_true, not_from_false, eq-eqb, eqb-true, eqb-false, ne_eqb}
 use Rattle.std.proofs.lemmas.List.{take-append-le}
 use Rattle.mesh_gen.specs.declared.request.Request.{Request}
@@ -11,13 +11,12 @@ use Rattle.chip_model.specs.Records.{LineRecord}
 use Rattle.chip_model.specs.Node.{Node}
 use Rattle.chip_model.specs.ChipState.{ChipState}
 use Rattle.chip_model.specs.Bookkeeping.{between, up_to_getm, waiting_for}
-use Rattle.chip_model.specs.Ownership.{delivered_to}
 use Rattle.chip_model.specs.Suppliers.{writes_back, places_written_back, next_from, last_written_back, is_last, has_reached_memory, next_written_back, has_come, is_fresh_by, waiters_after, ReachesMemory, GetsWait}
 use Rattle.chip_laws.proofs.OrderLists.{between_grown}
-use Rattle.supply_laws.proofs.LastPlaces.{LastIs, NextIs, NonePasses, next_unique}
+use Rattle.supply_laws.proofs.LastPlaces.{LastIs, NextIs, next_unique}
 use Rattle.supply_laws.proofs.WriteBackPlaces.{gets_for, writes_back_grown, writes_back_within, last_of_all, last_before, next_after}
 use Rattle.supply_laws.proofs.WordsDue.{due}
-use Rattle.supply_laws.proofs.NewWriteBacks.{OrdersMore, IsNewBack, NewBackIs, new_back, new_back_is}
+use Rattle.supply_laws.proofs.NewWriteBacks.{OrdersMore, NewBackIs, new_back, new_back_is}
 use Rattle.supply_laws.proofs.MemoryReached.{last_same, due_same, last_new, due_new}
 
 -- ---- whether the words of a write-back have reached memory

@@ -1,7 +1,7 @@
 -- A request of a tile that it has not delivered is the one of its demand or of its write-back: so no get for which it
 -- waits is for the line that it writes back.
-use Rattle.std.proofs.Common.{◌≡◌, ℕ, zero, suc, ◌+◌, ◌-◌, ◌<◌, ◌≤◌, Bool, true, false, cond, List, [], ◌∷◌, ◌++◌, length, map, take, drop, refl, sym, ◌∙◌, ap, subst, arith, inl, inr, Option, Some, None}
-use Rattle.std.specs.Prelude.{◌==◌, ◌&&◌, not, is_none, option_map, filter, slice_get, if◌then◌else◌}
+use Rattle.std.proofs.Common.{◌≡◌, ℕ, zero, suc, ◌+◌, ◌-◌, ◌≤◌, Bool, true, false, cond, List, [], ◌∷◌, ◌++◌, length, take, drop, refl, sym, ◌∙◌, ap, subst, arith, inl, inr, Option, Some, None}
+use Rattle.std.specs.Prelude.{◌==◌, ◌&&◌, not, is_none, option_map, filter, slice_get}
 use Rattle.std.proofs.lemmas.Bool.{both_ways, eq-eqb}
 use Rattle.std.proofs.lemmas.Option.{same_Some, slice_get-map}
 use Rattle.std.proofs.lemmas.List.{take-append-le}
@@ -14,13 +14,13 @@ use Rattle.chip_model.specs.Snoop.{CacheSide}
 use Rattle.chip_model.specs.Node.{Node}
 use Rattle.chip_model.specs.NodeShape.{SideFits}
 use Rattle.chip_model.specs.Ownership.{delivered_to}
-use Rattle.chip_model.specs.Bookkeeping.{is_get, is_get_of, count_by_tile, asked_for, gets_among, puts_among, outstanding_get, outstanding_put, IsOutstanding, IsOrderedAt}
+use Rattle.chip_model.specs.Bookkeeping.{is_get, count_by_tile, asked_for, gets_among, puts_among, outstanding_get, outstanding_put, IsOutstanding, IsOrderedAt}
 use Rattle.chip_model.specs.NetworkFits.{requests_of}
 use Rattle.chip_model.specs.Suppliers.{place_of_ordered}
 use Rattle.supply_laws.proofs.GetPlaces.{get_drop}
 use Rattle.chip_laws.proofs.Options.{none_some}
 use Rattle.chip_laws.proofs.OrderLists.{request_at, get_take, count_take_le}
-use Rattle.supply_laws.proofs.GetPlaces.{WaitsAt, FirstGet}
+use Rattle.supply_laws.proofs.GetPlaces.{WaitsAt}
 
 -- a tile's requests stand in the order as it made them, and those that its node has not delivered are its demand's and
 -- its write-back's

@@ -1,9 +1,9 @@
 -- What each event is to the words that are written back: it changes nothing of them, orders more requests, delivers one, or
 -- brings words home.
-use Rattle.std.proofs.Common.{◌≡◌, ◌≢◌, ℕ, ◌+◌, ◌<◌, ◌≤◌, true, false, List, ◌++◌, length, set, refl, sym, ◌∙◌, ap, subst, arith, inl, inr, Option, Some, None}
+use Rattle.std.proofs.Common.{◌≡◌, ℕ, ◌+◌, ◌<◌, ◌≤◌, List, ◌++◌, length, refl, sym, ◌∙◌, ap, subst, arith, inl, inr, Option, Some}
 use Rattle.std.specs.Prelude.{◌==◌, ◌&&◌, take, slice_get}
 use Rattle.std.proofs.lemmas.Bool.{cases_eq}
-use Rattle.std.proofs.lemmas.Option.{same_Some, slice_get_within}
+use Rattle.std.proofs.lemmas.Option.{same_Some}
 use Rattle.mesh_gen.specs.declared.request.Request.{Request}
 use Rattle.mesh_gen.specs.declared.msg.Msg.{Msg}
 use Rattle.mesh_gen.specs.declared.msg_kind.MsgKind.{MsgKind}
@@ -13,15 +13,15 @@ use Rattle.mesh_gen.specs.Ports.{count_if, port_number}
 use Rattle.report_text.specs.declared.event.Event.{Event}
 use Rattle.report_text.specs.declared.event.Event.TheVariants.{Tick, Core, Inject, Post, Take, Eject, Send, Hop, DataHop, DataEject}
 use Rattle.doc_text.specs.Doc.{Doc}
-use Rattle.chip_model.specs.Chip.{Chip, chip_of, tile_count}
+use Rattle.chip_model.specs.Chip.{chip_of, tile_count}
 use Rattle.chip_model.specs.OrderedNetwork.{OrderedNetwork, Interface, after_network_tick}
 use Rattle.chip_model.specs.Replies.{after_data_eject}
-use Rattle.chip_model.specs.Node.{Node, is_back, arrived_as, node_after_request, node_after_message, after_request_sent, after_message_sent, with_side}
+use Rattle.chip_model.specs.Node.{Node, is_back, arrived_as, node_after_request, node_after_message, after_request_sent, after_message_sent}
 use Rattle.chip_model.specs.Units.{UnitState, Acted, Behaviour}
 use Rattle.chip_model.specs.ChipState.{ChipState}
 use Rattle.chip_model.specs.BehaviourLaws.{KeepsLaws, Works}
 use Rattle.chip_model.specs.NodeShape.{IsCache}
-use Rattle.chip_model.specs.NetworkShape.{MessageFits, IsCopyOfMade}
+use Rattle.chip_model.specs.NetworkShape.{MessageFits}
 use Rattle.chip_model.specs.Bookkeeping.{count_by_tile}
 use Rattle.chip_model.specs.NetworkFits.{requests_of}
 use Rattle.chip_model.specs.CopiesOwed.{HasCopies}
@@ -45,9 +45,9 @@ use Rattle.chip_laws.proofs.RequestsInside.{tile_of, tiles_some, request_inside}
 use Rattle.chip_laws.proofs.NetworkFrames.{ticked_views, injected_sets, delivered_sets}
 use Rattle.chip_laws.proofs.OrderGrows.{posted_order, taken_order, hopped_order}
 use Rattle.supply_laws.proofs.WordsDue.{due, backs_in_channels, channels_same, due_unchanged, due_stepped, due_delivered, due_comes}
-use Rattle.supply_laws.proofs.WriteBackSends.{backs_in, arrived_backs}
+use Rattle.supply_laws.proofs.WriteBackSends.{backs_in}
 use Rattle.supply_laws.proofs.UndeliveredRequests.{Asks, asks_grown}
-use Rattle.supply_laws.proofs.NewWriteBacks.{OrdersMore, TileOfSource}
+use Rattle.supply_laws.proofs.NewWriteBacks.{OrdersMore}
 
 -- ---- the four things that an event may be
 -- a step that leaves the records and the queued words of a node

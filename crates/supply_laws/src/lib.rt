@@ -3,4 +3,4 @@
 
 mod laws;
 
-pub use laws::supply_laws;
+pub use laws::home_laws;
