@@ -1,2 +1,3 @@
 pub mod OwnerGets
 pub mod GetPlaces
+pub mod PlaceSteps
