@@ -1,3 +1,4 @@
 pub mod OwnerGets
 pub mod GetPlaces
 pub mod PlaceSteps
+pub mod PlaceEvents
