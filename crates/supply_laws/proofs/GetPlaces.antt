@@ -94,7 +94,7 @@ pub first_get_none : (ordered : List Request) (t from : ℕ) → NoGet ordered t
 first_get_none ordered t from none = none_only ordered t from (first_get ordered t from) none (first_get_is ordered t from)
 
 -- ---- counts
-get_drop : {X : Type 0} (xs : List X) (n k : ℕ) → slice_get (drop n xs) k ≡ slice_get xs (n + k)
+pub get_drop : {X : Type 0} (xs : List X) (n k : ℕ) → slice_get (drop n xs) k ≡ slice_get xs (n + k)
 get_drop xs zero k = let same : k ≡ 0 + k = omega arith in ap (slice_get xs) same
 get_drop [] (suc n) k = refl
 get_drop (x ∷ xs) (suc n) k = let same : suc (n + k) ≡ suc n + k = omega arith in get_drop xs n k ∙ ap (slice_get (x ∷ xs)) same
