@@ -1,6 +1,6 @@
 -- The place of the get for which a tile waits: that of its ordered demand, and else its first get that it has not delivered.
-use Rattle.std.proofs.Common.{◌≡◌, ◌≢◌, ℕ, zero, suc, ◌+◌, ◌-◌, ◌<◌, ◌≤◌, Bool, true, false, cond, refl, sym, ◌∙◌, ap, subst, arith, inl, inr, ◌⊎◌, Option, Some, None, List, [], ◌∷◌, ◌++◌, take, drop, length, length-drop, get_or}
-use Rattle.std.specs.Prelude.{◌==◌, ◌&&◌, is_some, slice_get, position, option_map}
+use Rattle.std.proofs.Common.{◌≡◌, ◌≢◌, ℕ, zero, suc, ◌+◌, ◌-◌, ◌<◌, ◌≤◌, Bool, true, false, refl, sym, ◌∙◌, ap, subst, arith, inl, inr, ◌⊎◌, Option, Some, None, List, [], ◌∷◌, drop, length, length-drop, get_or}
+use Rattle.std.specs.Prelude.{is_some, slice_get, position, option_map}
 use Rattle.std.specs.List.{count_by}
 use Rattle.std.specs.Option.{option_or}
 use Rattle.std.proofs.lemmas.Bool.{false≢true, cases_eq, cases_lt}
@@ -16,7 +16,6 @@ use Rattle.chip_model.specs.Bookkeeping.{is_get_of}
 use Rattle.chip_model.specs.Suppliers.{is_ordered, place_of_ordered}
 use Rattle.line_cache.proofs.First.{position-None}
 use Rattle.chip_laws.proofs.Options.{none_some}
-use Rattle.chip_laws.proofs.OrderLists.{get_grown}
 use Rattle.chip_laws.proofs.SupplyCounts.{count_by-cons}
 use Rattle.chip_laws.proofs.SuppliedComes.{OneOpen}
 
@@ -188,13 +187,16 @@ undelivered_open ordered node place q few at get beyond =
     let placed : count_if (is_ordered node.side.misses.demand) ≡ count_if (is_some (place_of_ordered node.side.misses.demand)) = ap count_if (is_ordered_place node.side.misses.demand) in
     let one = few_if (place_of_ordered node.side.misses.demand) (is_some node.side.misses.demand) count (omega (arith, few, placed))
     (undelivered_counts ordered node.tile node.delivered place q at get beyond) in
-    at_waits ordered node place (inr (one.0, record {
-      get = q;
-      at = at;
-      gets = get;
-      beyond = beyond;
-      first = λ k r from before there. other k r from before there one.1 (is_get_of node.tile r) refl;
-    }))
+    at_waits ordered node place (inr (
+      one.0,
+      record {
+        get = q;
+        at = at;
+        gets = get;
+        beyond = beyond;
+        first = λ k r from before there. other k r from before there one.1 (is_get_of node.tile r) refl;
+      },
+    ))
   where
     other : (k : ℕ) (r : Request) → node.delivered ≤ k → k < place → slice_get ordered k ≡ Some r → count_by (is_get_of node.tile) (drop node.delivered ordered) ≡ 1
         → (b : Bool) → is_get_of node.tile r ≡ b → is_get_of node.tile r ≡ false

@@ -4,3 +4,6 @@ pub mod PlaceSteps
 pub mod PlaceEvents
 pub mod Undelivered
 pub mod Ticked
+pub mod OpenGets
+pub mod NoWriteBacks
+pub mod OneToComes

@@ -1,8 +1,7 @@
 -- What every event does to the places of the gets for which tiles wait: it orders nothing, and each stays or its get
 -- completes; or it is a tick, which changes no unit.
-use Rattle.std.proofs.Common.{◌≡◌, ◌≢◌, ℕ, ◌+◌, ◌<◌, ◌≤◌, Bool, true, false, refl, sym, ◌∙◌, ap, subst, arith, inl, inr, ◌⊎◌, Option, Some, None, List, ◌++◌, length}
+use Rattle.std.proofs.Common.{◌≡◌, ◌≢◌, ℕ, ◌+◌, ◌<◌, ◌≤◌, refl, sym, ◌∙◌, ap, subst, arith, inl, inr, ◌⊎◌, Option, Some, None, List, ◌++◌, length}
 use Rattle.std.specs.Prelude.{slice_get}
-use Rattle.std.specs.List.{count_by}
 use Rattle.std.specs.Option.{option_or}
 use Rattle.std.proofs.lemmas.Bool.{false≢true, cases_lt, cases_eq}
 use Rattle.std.proofs.lemmas.Option.{same_Some, slice_get_within}
@@ -21,24 +20,24 @@ use Rattle.chip_model.specs.Units.{UnitState, Behaviour, Acted}
 use Rattle.chip_model.specs.ChipState.{ChipState}
 use Rattle.chip_model.specs.BehaviourLaws.{KeepsLaws, Works}
 use Rattle.chip_model.specs.NodeShape.{IsCache}
-use Rattle.chip_model.specs.Bookkeeping.{is_get_of}
 use Rattle.chip_model.specs.Suppliers.{count_of, delivered_at, place_of_ordered, place_of_get}
 use Rattle.chip_model.specs.ChipInvariant.{ProtocolHolds}
+use Rattle.snoop_core.proofs.Accesses.{accessed_frame}
 use Rattle.net_iface.proofs.Named.{slice_get-append_left, slice_get_grown}
 use Rattle.chip_laws.specs.DocFits.{DocFits}
 use Rattle.chip_laws.specs.EventSteps.{ChangesNetwork, ChangesUnit, EventDoes}
 use Rattle.chip_laws.specs.Meetings.{UnitsFit}
 use Rattle.chip_laws.proofs.Deliveries.{deliveries_fit}
 use Rattle.chip_laws.proofs.OrderGrows.{injected_order, posted_order, taken_order, hopped_order, delivered_order}
-use Rattle.chip_laws.proofs.OrderFrames.{HoldsAt, holds_at}
+use Rattle.chip_laws.proofs.OrderFrames.{holds_at}
 use Rattle.chip_laws.proofs.SupplyBounds.{one_open}
 use Rattle.chip_laws.proofs.SupplyFrames.{count_here, count_there}
 use Rattle.chip_laws.proofs.SupplyAccounts.{accessed_supply}
 use Rattle.chip_laws.proofs.SuppliedComes.{OneOpen}
-use Rattle.chip_laws.proofs.UnitFrames.{changed_unit, other_unit, each_unit, same_units}
+use Rattle.chip_laws.proofs.UnitFrames.{other_unit, each_unit}
 use Rattle.chip_laws.proofs.WholeSteps.{delivers_next}
 use Rattle.supply_laws.proofs.GetPlaces.{FirstGet, FirstGetIs, first_get, first_get_is, open_place}
-use Rattle.supply_laws.proofs.PlaceSteps.{StaysOrEnds, place_kept, asked_place, message_sent_place, accessed_place, arrived_place, delivered_place}
+use Rattle.supply_laws.proofs.PlaceSteps.{StaysOrEnds, asked_place, message_sent_place, accessed_place, arrived_place, delivered_place}
 
 -- of a tile at most one get is ordered and not complete
 pub one_of : (d : Doc) (s : ChipState) (t : ℕ) (unit : UnitState) → ProtocolHolds d s → slice_get s.units t ≡ Some unit → OneOpen s.network.ordered unit.node.tile unit.node
@@ -52,6 +51,8 @@ pub record KeepsPlaces (s new : ChipState) : Type 0 where
   pub order : new.network.ordered ≡ s.network.ordered
   pub places : (t : ℕ) (unit after : UnitState) → slice_get s.units t ≡ Some unit → slice_get new.units t ≡ Some after → StaysOrEnds (place_of_get s unit.node) (place_of_get new after.node)
   pub counts : (v : ℕ) → delivered_at s v ≤ delivered_at new v
+  pub units : (t : ℕ) (after : UnitState) → slice_get new.units t ≡ Some after → (unit : UnitState) × (slice_get s.units t ≡ Some unit)
+  pub tiles : (t : ℕ) (unit after : UnitState) → slice_get s.units t ≡ Some unit → slice_get new.units t ≡ Some after → after.node.tile ≡ unit.node.tile
 
 stays_by : (s new : ChipState) (node : Node) → new.network.ordered ≡ s.network.ordered → StaysOrEnds (place_of_get s node) (place_of_get new node)
 stays_by s new node order = inl (ap (λ (ordered : List Request). open_place ordered node) order)
@@ -64,12 +65,16 @@ quiet_places s new order units = record {
       let same : unit ≡ after = same_Some unit after (sym was ∙ (ap (λ (us : List UnitState). slice_get us t) (sym units) ∙ is)) in
       subst (λ (u : UnitState). StaysOrEnds (place_of_get s unit.node) (place_of_get new u.node)) same (stays_by s new unit.node order);
   counts = λ v. let same : delivered_at new v ≡ delivered_at s v = ap (λ (us : List UnitState). count_of (slice_get us v)) units in omega (arith, same);
+  units = λ t after at. (after, ap (λ (us : List UnitState). slice_get us t) (sym units) ∙ at);
+  tiles = λ t unit after was is.
+      let same : unit ≡ after = same_Some unit after (sym was ∙ (ap (λ (us : List UnitState). slice_get us t) (sym units) ∙ is)) in
+      ap (λ (u : UnitState). u.node.tile) (sym same);
 }
 
 -- one unit changes
-unit_places : (s new : ChipState) (u : ℕ) (unit after : UnitState) → ChangesUnit s new u unit after → new.network.ordered ≡ s.network.ordered → unit.node.delivered ≤ after.node.delivered
-    → StaysOrEnds (open_place s.network.ordered unit.node) (open_place s.network.ordered after.node) → KeepsPlaces s new
-unit_places s new u unit after c order more here = record {
+unit_places : (s new : ChipState) (u : ℕ) (unit after : UnitState) → ChangesUnit s new u unit after → new.network.ordered ≡ s.network.ordered → after.node.tile ≡ unit.node.tile
+    → unit.node.delivered ≤ after.node.delivered → StaysOrEnds (open_place s.network.ordered unit.node) (open_place s.network.ordered after.node) → KeepsPlaces s new
+unit_places s new u unit after c order tile more here = record {
   order = order;
   places = λ t was is before now.
       each_unit (λ v x. (old : UnitState) → slice_get s.units v ≡ Some old → StaysOrEnds (place_of_get s old.node) (place_of_get new x.node)) s new u unit after c
@@ -82,25 +87,47 @@ unit_places s new u unit after c order more here = record {
       subst (λ (y : UnitState). StaysOrEnds (place_of_get s y.node) (place_of_get new x.node)) same (stays_by s new x.node order))
       t is now was before;
   counts = λ v. elim (cases_eq v u) [
-      | inl same ↦ (
-          let both = count_here s new u unit after c in
-          let old : delivered_at s v ≡ unit.node.delivered = ap (delivered_at s) same ∙ both.0 in
-          let now : delivered_at new v ≡ after.node.delivered = ap (delivered_at new) same ∙ both.1 in
-          omega (arith, old, now, more))
-      | inr away ↦ omega (arith, count_there s new u v unit after c away)
+    | inl same ↦ (
+        let both = count_here s new u unit after c in
+        let old : delivered_at s v ≡ unit.node.delivered = ap (delivered_at s) same ∙ both.0 in
+        let now : delivered_at new v ≡ after.node.delivered = ap (delivered_at new) same ∙ both.1 in
+        omega (arith, old, now, more))
+    | inr away ↦ omega (arith, count_there s new u v unit after c away)
   ];
+  units = λ t x at. elim (cases_eq t u) [
+    | inl same ↦ (unit, ap (slice_get s.units) same ∙ c.at)
+    | inr away ↦ (x, sym (other_unit s new u t unit after c away) ∙ at)
+  ];
+  tiles = λ t was is before now.
+      each_unit (λ v x. (old : UnitState) → slice_get s.units v ≡ Some old → x.node.tile ≡ old.node.tile) s new u unit after c
+      (λ old at. tile ∙ ap (λ (x : UnitState). x.node.tile) (same_Some unit old (sym c.at ∙ at)))
+      (λ v x away at old was_at. ap (λ (y : UnitState). y.node.tile) (same_Some x old (sym at ∙ was_at)))
+      t is now was before;
 }
 
 -- ---- the steps of a unit
 core_place : (ordered : List Request) (unit : UnitState) (acted : Acted) → IsCache unit.node.chip unit.node.side.cache → Works unit acted
-    → (open_place ordered acted.0.node ≡ open_place ordered unit.node) × (acted.0.node.delivered ≡ unit.node.delivered)
+    → (open_place ordered acted.0.node ≡ open_place ordered unit.node) × (acted.0.node.delivered ≡ unit.node.delivered) × (acted.0.node.tile ≡ unit.node.tile)
 core_place ordered unit acted cache works = elim works [
-  | inl alone ↦ (ap (open_place ordered) alone.node, ap (λ (n : Node). n.delivered) alone.node)
+  | inl alone ↦ (ap (open_place ordered) alone.node, ap (λ (n : Node). n.delivered) alone.node, ap (λ (n : Node). n.tile) alone.node)
   | inr tries ↦ (
-      ap (open_place ordered) tries.goes_on.node ∙ accessed_place ordered tries.access unit.node tries.left tries.tried cache,
-      ap (λ (n : Node). n.delivered) tries.goes_on.node ∙ (accessed_supply tries.access unit.node tries.left tries.tried cache).delivered,
-    )
+    ap (open_place ordered) tries.goes_on.node ∙ accessed_place ordered tries.access unit.node tries.left tries.tried cache,
+    ap (λ (n : Node). n.delivered) tries.goes_on.node ∙ (accessed_supply tries.access unit.node tries.left tries.tried cache).delivered,
+    ap (λ (n : Node). n.tile) tries.goes_on.node ∙ ap (λ (n : Node). n.tile) (accessed_frame tries.access unit.node tries.left tries.tried cache),
+  )
 ]
+
+asked_tile : (node : Node) → (after_request_sent node).tile ≡ node.tile
+unfolding after_request_sent
+asked_tile node = refl
+
+sent_tile : (node : Node) → (after_message_sent node).tile ≡ node.tile
+unfolding after_message_sent
+sent_tile node = refl
+
+delivered_tile : (q : Request) (node : Node) → (node_after_request q node).0.tile ≡ node.tile
+unfolding node_after_request
+delivered_tile q node = refl
 
 asked_count : (node : Node) → (after_request_sent node).delivered ≡ node.delivered
 unfolding after_request_sent
@@ -121,6 +148,13 @@ same_delivered msg node = by msg.kind where
   by Data = refl
   by Back = refl
 
+same_tile : (msg : Msg) (node : Node) → (node_after_message msg node).0.tile ≡ node.tile
+unfolding node_after_message
+same_tile msg node = by msg.kind where
+  by : (kind : MsgKind) → (arrived_as msg node kind).0.tile ≡ node.tile
+  by Data = refl
+  by Back = refl
+
 same_order : (s new : ChipState) → new.network ≡ s.network → new.network.ordered ≡ s.network.ordered
 same_order s new same = ap (λ (net : OrderedNetwork). net.ordered) same
 
@@ -134,7 +168,7 @@ module _ (b : Behaviour) (laws : KeepsLaws b) (d : Doc) (s new : ChipState) (fit
       let here = holds_at d s holds t does.unit does.changes.at in
       let law = laws.stepped does.unit (fit t does.unit does.changes.at) does.ready in
       let same = core_place s.network.ordered does.unit (b.stepped does.unit) here.holds.node.fits.side.cache law.1 in
-      unit_places s new t does.unit (b.stepped does.unit).0 does.changes (same_order s new does.network) (omega (arith, same.1)) (inl same.0)
+      unit_places s new t does.unit (b.stepped does.unit).0 does.changes (same_order s new does.network) same.2 (omega (arith, same.1)) (inl same.0)
 
   eject_keeps : (t : ℕ) → EventDoes b (chip_of d) s new (Eject t) → KeepsPlaces s new
   eject_keeps t does =
@@ -142,7 +176,8 @@ module _ (b : Behaviour) (laws : KeepsLaws b) (d : Doc) (s new : ChipState) (fit
       let next = delivers_next d s holds (deliveries_fit d s fits holds) t does.unit does.request new.network does.changes.at does.network in
       let node : (b.delivered does.request does.unit).0.node ≡ (node_after_request does.request does.unit.node).0 = law.1.goes_on.node in
       let more : (b.delivered does.request does.unit).0.node.delivered ≡ does.unit.node.delivered + 1 = ap (λ (n : Node). n.delivered) node ∙ delivered_count does.request does.unit.node in
-      unit_places s new t does.unit (b.delivered does.request does.unit).0 does.changes (delivered_order (chip_of d) s.network new.network t does.request does.network) (omega (arith, more))
+      unit_places s new t does.unit (b.delivered does.request does.unit).0 does.changes (delivered_order (chip_of d) s.network new.network t does.request does.network)
+      (ap (λ (n : Node). n.tile) node ∙ delivered_tile does.request does.unit.node) (omega (arith, more))
       (subst (λ (n : Node). StaysOrEnds (open_place s.network.ordered does.unit.node) (open_place s.network.ordered n)) (sym node)
       (delivered_place s.network.ordered does.request does.unit.node (one_of d s t does.unit holds does.changes.at) next.at next.own))
 
@@ -151,7 +186,7 @@ module _ (b : Behaviour) (laws : KeepsLaws b) (d : Doc) (s new : ChipState) (fit
       let law = laws.received does.msg does.unit (fit r does.unit does.changes.at) in
       let node : (b.received does.msg does.unit).0.node ≡ (node_after_message does.msg does.unit.node).0 = law.1.goes_on.node in
       let same : (b.received does.msg does.unit).0.node.delivered ≡ does.unit.node.delivered = ap (λ (n : Node). n.delivered) node ∙ same_delivered does.msg does.unit.node in
-      unit_places s new r does.unit (b.received does.msg does.unit).0 does.changes (same_order s new does.network) (omega (arith, same))
+      unit_places s new r does.unit (b.received does.msg does.unit).0 does.changes (same_order s new does.network) (ap (λ (n : Node). n.tile) node ∙ same_tile does.msg does.unit.node) (omega (arith, same))
       (subst (λ (n : Node). StaysOrEnds (open_place s.network.ordered does.unit.node) (open_place s.network.ordered n)) (sym node)
       (arrived_place s.network.ordered does.msg does.unit.node (one_of d s r does.unit holds does.changes.at)))
 
@@ -160,12 +195,12 @@ module _ (b : Behaviour) (laws : KeepsLaws b) (d : Doc) (s new : ChipState) (fit
   keeps_or_ticks (Core t) does = inl (core_keeps t does)
   keeps_or_ticks (Inject t) does =
       inl (unit_places s new t does.unit (record does.unit { node = after_request_sent does.unit.node }) does.changes
-      (injected_order (chip_of d) s.network new.network t does.kind does.line does.network) (omega (arith, asked_count does.unit.node)) (inl (asked_place s.network.ordered does.unit.node)))
+      (injected_order (chip_of d) s.network new.network t does.kind does.line does.network) (asked_tile does.unit.node) (omega (arith, asked_count does.unit.node)) (inl (asked_place s.network.ordered does.unit.node)))
   keeps_or_ticks (Post t) does = inl (quiet_places s new (posted_order s.network new.network t does.network) does.units)
   keeps_or_ticks (Take t) does = inl (quiet_places s new (taken_order s.network new.network t does.network) does.units)
   keeps_or_ticks (Eject t) does = inl (eject_keeps t does)
   keeps_or_ticks (Send t) does =
-      inl (unit_places s new t does.unit (record does.unit { node = after_message_sent does.unit.node }) does.changes (same_order s new does.network)
+      inl (unit_places s new t does.unit (record does.unit { node = after_message_sent does.unit.node }) does.changes (same_order s new does.network) (sent_tile does.unit.node)
       (omega (arith, sent_count does.unit.node)) (inl (message_sent_place s.network.ordered does.unit.node)))
   keeps_or_ticks (Hop r port slot out) does = inl (quiet_places s new (hopped_order (chip_of d) s.network new.network r port slot out does.network) does.units)
   keeps_or_ticks (DataHop r port slot) does = inl (quiet_places s new (same_order s new does.network) does.units)
@@ -219,8 +254,8 @@ grown_place ordered more node =
           none = refl;
           at = refl;
           beyond = elim (cases_lt j (length ordered)) [
-              | inl before ↦ absurd (false≢true (sym (was j now.get now.beyond (sym (slice_get-append_left ordered more j before) ∙ now.at)) ∙ now.gets))
-              | inr beyond ↦ beyond
+            | inl before ↦ absurd (false≢true (sym (was j now.get now.beyond (sym (slice_get-append_left ordered more j before) ∙ now.at)) ∙ now.gets))
+            | inr beyond ↦ beyond
           ];
         })
         cases None (Some k) None was now = absurd (false≢true (sym (now k was.get was.beyond (slice_get_grown ordered more k was.get was.at)) ∙ was.gets))

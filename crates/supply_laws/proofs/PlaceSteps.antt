@@ -1,5 +1,5 @@
 -- A step of a node keeps the place of the get for which its tile waits, or completes that get.
-use Rattle.std.proofs.Common.{◌≡◌, ℕ, ◌+◌, ◌<◌, ◌≤◌, Bool, true, false, cond, refl, sym, ◌∙◌, ap, subst, arith, inl, inr, ◌⊎◌, Option, Some, None, List, length}
+use Rattle.std.proofs.Common.{◌≡◌, ℕ, ◌+◌, ◌<◌, ◌≤◌, Bool, true, false, cond, refl, sym, ◌∙◌, ap, subst, arith, inl, inr, ◌⊎◌, Option, Some, None, List}
 use Rattle.std.specs.Prelude.{◌==◌, ◌&&◌, is_some, slice_get, drop}
 use Rattle.std.specs.List.{count_by}
 use Rattle.std.specs.Option.{option_or}
@@ -15,7 +15,7 @@ use Rattle.mesh_gen.specs.Ports.{count_if}
 use Rattle.chip_model.specs.declared.pending.Pending.{Pending}
 use Rattle.chip_model.specs.Chip.{Chip}
 use Rattle.chip_model.specs.Misses.{Misses, Demand, WriteBack, sent_demand, marked_sent}
-use Rattle.chip_model.specs.Snoop.{CacheSide, Outcome, holding, snooped_with, completed, words_here, ordered_with, own_get, own_put, own_request, after_snoop, data_at, data_for, after_data}
+use Rattle.chip_model.specs.Snoop.{CacheSide, Outcome, holding, snooped_with, words_here, ordered_with, own_get, own_put, own_request, after_snoop, data_at, data_for, after_data}
 use Rattle.chip_model.specs.Node.{Node, Performed, node_after_access, node_after_request, node_after_message, arrived_as, after_request_sent, after_message_sent}
 use Rattle.chip_model.specs.NodeShape.{IsCache}
 use Rattle.chip_model.specs.Bookkeeping.{is_get, is_get_of}
@@ -24,10 +24,9 @@ use Rattle.snoop_core.specs.Requests.{MeetsOwn, MeetsDemand, OwnRequestFits}
 use Rattle.snoop_core.proofs.Sending.{sent_forms}
 use Rattle.snoop_core.proofs.SnoopSteps.{snoop_forms}
 use Rattle.snoop_core.proofs.Accesses.{access_forms, accessed_free}
-use Rattle.chip_laws.proofs.Options.{none_some}
 use Rattle.chip_laws.proofs.UnderWay.{completed_none}
 use Rattle.chip_laws.proofs.SuppliedComes.{OneOpen}
-use Rattle.supply_laws.proofs.GetPlaces.{FirstGet, NoGet, FirstGetIs, first_get, first_get_is, first_get_at, first_get_none, none_counts, open_place, at_waits, waits_for_none, undelivered_open, undelivered_counts, both_count}
+use Rattle.supply_laws.proofs.GetPlaces.{NoGet, FirstGetIs, first_get, first_get_is, first_get_at, first_get_none, none_counts, open_place, at_waits, waits_for_none, undelivered_open, both_count}
 
 -- the place stays, or the get is complete and no other one is ordered
 abbrev pub StaysOrEnds : Option ℕ → Option ℕ → Type 0

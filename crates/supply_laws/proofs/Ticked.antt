@@ -1,15 +1,13 @@
 -- After a tick: the order may have grown, and each tile still agrees with it.
-use Rattle.std.proofs.Common.{◌≡◌, ℕ, ◌<◌, ◌≤◌, refl, sym, ◌∙◌, ap, subst, arith, Option, Some, List, ◌++◌, length}
+use Rattle.std.proofs.Common.{◌≡◌, ℕ, sym, ◌∙◌, ap, arith, Some, List, ◌++◌}
 use Rattle.std.specs.Prelude.{slice_get}
 use Rattle.std.proofs.lemmas.Option.{slice_get_within}
 use Rattle.mesh_gen.specs.declared.request.Request.{Request}
 use Rattle.doc_text.specs.Doc.{Doc}
-use Rattle.chip_model.specs.declared.net_copy.NetCopy.{NetCopy}
-use Rattle.chip_model.specs.Chip.{Chip, chip_of, tile_count}
+use Rattle.chip_model.specs.Chip.{Chip, chip_of}
 use Rattle.chip_model.specs.OrderedNetwork.{OrderedNetwork, Interface, after_network_tick}
 use Rattle.chip_model.specs.Units.{UnitState}
 use Rattle.chip_model.specs.ChipState.{ChipState}
-use Rattle.chip_model.specs.CopiesOwed.{HasCopies}
 use Rattle.chip_model.specs.NetworkFits.{NetworkFits, InterfaceAgrees}
 use Rattle.chip_model.specs.ChipInvariant.{NodeHolds, ProtocolHolds}
 use Rattle.net_iface.proofs.Accords.{Accords}
