@@ -7,3 +7,7 @@ pub mod Ticked
 pub mod OpenGets
 pub mod NoWriteBacks
 pub mod OneToComes
+pub mod DataSends
+pub mod WaitingGets
+pub mod Carried
+pub mod DataKept

@@ -34,7 +34,7 @@ use Rattle.chip_laws.proofs.SupplyBounds.{one_open}
 use Rattle.chip_laws.proofs.SupplyFrames.{count_here, count_there}
 use Rattle.chip_laws.proofs.SupplyAccounts.{accessed_supply}
 use Rattle.chip_laws.proofs.SuppliedComes.{OneOpen}
-use Rattle.chip_laws.proofs.UnitFrames.{other_unit, each_unit}
+use Rattle.chip_laws.proofs.UnitFrames.{changed_unit, other_unit, each_unit}
 use Rattle.chip_laws.proofs.WholeSteps.{delivers_next}
 use Rattle.supply_laws.proofs.GetPlaces.{FirstGet, FirstGetIs, first_get, first_get_is, open_place}
 use Rattle.supply_laws.proofs.PlaceSteps.{StaysOrEnds, asked_place, message_sent_place, accessed_place, arrived_place, delivered_place}
@@ -52,6 +52,7 @@ pub record KeepsPlaces (s new : ChipState) : Type 0 where
   pub places : (t : ℕ) (unit after : UnitState) → slice_get s.units t ≡ Some unit → slice_get new.units t ≡ Some after → StaysOrEnds (place_of_get s unit.node) (place_of_get new after.node)
   pub counts : (v : ℕ) → delivered_at s v ≤ delivered_at new v
   pub units : (t : ℕ) (after : UnitState) → slice_get new.units t ≡ Some after → (unit : UnitState) × (slice_get s.units t ≡ Some unit)
+  pub stands : (t : ℕ) (unit : UnitState) → slice_get s.units t ≡ Some unit → (after : UnitState) × (slice_get new.units t ≡ Some after)
   pub tiles : (t : ℕ) (unit after : UnitState) → slice_get s.units t ≡ Some unit → slice_get new.units t ≡ Some after → after.node.tile ≡ unit.node.tile
 
 stays_by : (s new : ChipState) (node : Node) → new.network.ordered ≡ s.network.ordered → StaysOrEnds (place_of_get s node) (place_of_get new node)
@@ -66,6 +67,7 @@ quiet_places s new order units = record {
       subst (λ (u : UnitState). StaysOrEnds (place_of_get s unit.node) (place_of_get new u.node)) same (stays_by s new unit.node order);
   counts = λ v. let same : delivered_at new v ≡ delivered_at s v = ap (λ (us : List UnitState). count_of (slice_get us v)) units in omega (arith, same);
   units = λ t after at. (after, ap (λ (us : List UnitState). slice_get us t) (sym units) ∙ at);
+  stands = λ t unit at. (unit, ap (λ (us : List UnitState). slice_get us t) units ∙ at);
   tiles = λ t unit after was is.
       let same : unit ≡ after = same_Some unit after (sym was ∙ (ap (λ (us : List UnitState). slice_get us t) (sym units) ∙ is)) in
       ap (λ (u : UnitState). u.node.tile) (sym same);
@@ -97,6 +99,10 @@ unit_places s new u unit after c order tile more here = record {
   units = λ t x at. elim (cases_eq t u) [
     | inl same ↦ (unit, ap (slice_get s.units) same ∙ c.at)
     | inr away ↦ (x, sym (other_unit s new u t unit after c away) ∙ at)
+  ];
+  stands = λ t x at. elim (cases_eq t u) [
+    | inl same ↦ (after, ap (slice_get new.units) same ∙ changed_unit s new u unit after c)
+    | inr away ↦ (x, other_unit s new u t unit after c away ∙ at)
   ];
   tiles = λ t was is before now.
       each_unit (λ v x. (old : UnitState) → slice_get s.units v ≡ Some old → x.node.tile ≡ old.node.tile) s new u unit after c
