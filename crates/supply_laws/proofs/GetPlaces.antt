@@ -187,13 +187,16 @@ undelivered_open ordered node place q few at get beyond =
     let placed : count_if (is_ordered node.side.misses.demand) ≡ count_if (is_some (place_of_ordered node.side.misses.demand)) = ap count_if (is_ordered_place node.side.misses.demand) in
     let one = few_if (place_of_ordered node.side.misses.demand) (is_some node.side.misses.demand) count (omega (arith, few, placed))
     (undelivered_counts ordered node.tile node.delivered place q at get beyond) in
-    at_waits ordered node place (inr (one.0, record {
-      get = q;
-      at = at;
-      gets = get;
-      beyond = beyond;
-      first = λ k r from before there. other k r from before there one.1 (is_get_of node.tile r) refl;
-    }))
+    at_waits ordered node place (inr (
+      one.0,
+      record {
+        get = q;
+        at = at;
+        gets = get;
+        beyond = beyond;
+        first = λ k r from before there. other k r from before there one.1 (is_get_of node.tile r) refl;
+      },
+    ))
   where
     other : (k : ℕ) (r : Request) → node.delivered ≤ k → k < place → slice_get ordered k ≡ Some r → count_by (is_get_of node.tile) (drop node.delivered ordered) ≡ 1
         → (b : Bool) → is_get_of node.tile r ≡ b → is_get_of node.tile r ≡ false

@@ -16,3 +16,14 @@ pub mod ReturnedHomes
 pub mod LaterBacks
 pub mod HomeEvents
 pub mod HomesOpened
+pub mod PlaceSteps
+pub mod PlaceEvents
+pub mod Undelivered
+pub mod Ticked
+pub mod OpenGets
+pub mod NoWriteBacks
+pub mod OneToComes
+pub mod DataSends
+pub mod WaitingGets
+pub mod Carried
+pub mod DataKept
