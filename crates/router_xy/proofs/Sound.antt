@@ -1,9 +1,8 @@
 -- What stands in the channels after a copy was put into one, or left it.
-use Rattle.std.proofs.Common.{◌≡◌, ℕ, zero, suc, ◌<◌, true, sym, ◌∙◌, ap, subst, arith, ⊎_elim, Option, Some, None, [], length, length-set, get_or}
-use Rattle.std.proofs.lemmas.Bool.{cases_eq}
-use Rattle.std.specs.Prelude.{replicate, slice_get}
+use Rattle.std.proofs.Common.{◌≡◌, ℕ, ◌<◌, true, sym, ◌∙◌, ap, subst, arith, Option, Some, None, []}
+use Rattle.std.specs.Prelude.{slice_get}
 use Rattle.std.proofs.lemmas.List.{length-replicate}
-use Rattle.std.proofs.lemmas.Option.{slice_get_within, slice_get-get_or, get_or_from_slice_get}
+use Rattle.std.proofs.lemmas.Option.{slice_get-get_or}
 use Rattle.mesh_gen.specs.declared.request.Request.{Request}
 use Rattle.mesh_gen.specs.declared.port.Port.{Port}
 use Rattle.mesh_gen.specs.Grid.{Grid, tiles, neighbour}
@@ -12,13 +11,14 @@ use Rattle.mesh_gen.specs.Ports.{port_number, opposite}
 use Rattle.mesh_gen.specs.Routes.{HasTiles}
 use Rattle.mesh_gen.proofs.Beside.{neighbour_inside}
 use Rattle.mesh_gen.proofs.Coordinates.{has_tiles}
-use Rattle.vc_bank.specs.Channels.{Channels, slots_at, with_packet, IsFree, empty_channels, normal_slots}
-use Rattle.vc_bank.specs.Places.{Network, slots, at, put, HasPlace}
-use Rattle.vc_bank.proofs.PlaceLaws.{bank-put_same, bank-put_other, at-put, place_of, at-empty, length-slots-put}
+use Rattle.vc_bank.specs.Channels.{Channels, IsFree, normal_slots}
+use Rattle.vc_bank.specs.Places.{Network, at, put, HasPlace}
+use Rattle.vc_bank.proofs.PlaceLaws.{bank-put_other, place_of, at-empty}
 use Rattle.chip_model.specs.declared.net_copy.NetCopy.{NetCopy}
 use Rattle.chip_model.specs.Copies.{Name, channels_of, no_copies}
 use Rattle.chip_model.specs.CopiesOwed.{IsOnTree}
 use Rattle.chip_model.specs.NetworkShape.{HasChannels}
+use Rattle.chip_model.proofs.ChannelPuts.{HasChannels-put, HasChannels-empty, Every, every-put}
 use Rattle.router_xy.specs.declared.way.Way.{Way}
 use Rattle.router_xy.specs.CopiesHold.{CopiesHold}
 use Rattle.router_xy.specs.RequestNetwork.{IsOpenHop, RoutersFit}
@@ -33,54 +33,13 @@ bank_there g vcs net r is inside = let routers = is.channels.routers in slice_ge
 pub normal_there : (g : Grid) (vcs : ℕ) (net : Network NetCopy) (r : ℕ) → CopiesHold g vcs net → r < tiles g → normal_slots (channels_of net r) ≡ vcs
 normal_there g vcs net r is inside = is.channels.slots r 0 (channels_of net r) (bank_there g vcs net r is inside) ∙ length-replicate vcs None
 
--- ---- a write keeps the shape
-length-put : (net : Network NetCopy) (r p slot : ℕ) (packet : Option NetCopy) → length (put net r p slot packet) ≡ length net
-unfolding put
-length-put net r p slot packet = length-set net r (with_packet (get_or net r []) p slot packet)
-
-length_bank-put : (net : Network NetCopy) (r p slot : ℕ) (packet : Option NetCopy) (n : ℕ) → HasPlace net r p slot → length (channels_of (put net r p slot packet) n) ≡ length (channels_of net n)
-length_bank-put net r p slot packet n place = ⊎_elim
-    (λ same. subst (λ (m : ℕ). length (channels_of (put net r p slot packet) m) ≡ length (channels_of net m)) (sym same)
-    (ap length (bank-put_same net r p slot packet place) ∙ length-set (channels_of net r) p _))
-    (λ apart. ap length (bank-put_other net r p slot packet n apart))
-    (cases_eq n r)
-
-length_slots-put : (net : Network NetCopy) (r p slot : ℕ) (packet : Option NetCopy) (n q : ℕ) → HasPlace net r p slot → length (slots_at (channels_of (put net r p slot packet) n) q) ≡ length (slots_at (channels_of net n) q)
-unfolding slots
-length_slots-put net r p slot packet n q place = length-slots-put net r p slot packet n q place
-
-bank_is : (net : Network NetCopy) (n : ℕ) (channels : Channels NetCopy) → slice_get net n ≡ Some channels → channels_of net n ≡ channels
-bank_is net n channels there = get_or_from_slice_get net n channels [] there
-
-channels-put : (g : Grid) (vcs : ℕ) (net : Network NetCopy) (r p slot : ℕ) (packet : Option NetCopy) → HasChannels g vcs true net → HasPlace net r p slot → HasChannels g vcs true (put net r p slot packet)
-channels-put g vcs net r p slot packet have place = record {
-  routers = length-put net r p slot packet ∙ have.routers;
-  ports = λ n channels there. ap length (sym (bank_is (put net r p slot packet) n channels there)) ∙ length_bank-put net r p slot packet n place
-      ∙ have.ports n (channels_of net n) (was n channels there);
-  slots = λ n q channels there. ap (λ (bank : Channels NetCopy). length (slots_at bank q)) (sym (bank_is (put net r p slot packet) n channels there)) ∙ length_slots-put net r p slot packet n q place
-      ∙ have.slots n q (channels_of net n) (was n channels there);
-}
-  where
-    was : (n : ℕ) (channels : Channels NetCopy) → slice_get (put net r p slot packet) n ≡ Some channels → slice_get net n ≡ Some (channels_of net n)
-    was n channels there = let within = slice_get_within (put net r p slot packet) n channels there in let same = length-put net r p slot packet in slice_get-get_or net n [] (omega arith)
-
--- ---- what holds of every copy
-abbrev pub Every : (ℕ → NetCopy → Type 0) → Network NetCopy → Type 0
-Every holds net = (r p slot : ℕ) (copy : NetCopy) → at net r p slot ≡ Some copy → holds r copy
-
-pub every-put : (holds : ℕ → NetCopy → Type 0) (net : Network NetCopy) (r p slot : ℕ) (packet : Option NetCopy) → Every holds net → HasPlace net r p slot → ((copy : NetCopy) → packet ≡ Some copy → holds r copy) → Every holds (put net r p slot packet)
-every-put holds net r p slot packet all place own n q i copy stands = ⊎_elim
-    (λ here. subst (λ (m : ℕ). holds m copy) (sym here.0) (own copy here.3))
-    (λ before. all n q i copy before)
-    (at-put net r p slot packet n q i copy place stands)
-
 -- ---- the routers stay sound
 sound-put : (g : Grid) (vcs : ℕ) (net new : Network NetCopy) (r p slot : ℕ) (packet : Option NetCopy) → CopiesHold g vcs net → HasPlace net r p slot → ((copy : NetCopy) → packet ≡ Some copy → IsOnTree g r copy) → OwesOnce g new → new ≡ put net r p slot packet
     → CopiesHold g vcs new
 sound-put g vcs net new r p slot packet is place own once made = record {
-  channels = subst (λ (net : Network NetCopy). HasChannels g vcs true net) (sym made) (channels-put g vcs net r p slot packet is.channels place);
+  channels = subst (λ (net : Network NetCopy). HasChannels g vcs true net) (sym made) (HasChannels-put g vcs true net r p slot packet is.channels place);
   fit = record {
-    stand = subst (λ (net : Network NetCopy). Every (IsOnTree g) net) (sym made) (every-put (IsOnTree g) net r p slot packet is.fit.stand place own);
+    stand = subst (λ (net : Network NetCopy). Every (λ router port copy. IsOnTree g router copy) net) (sym made) (every-put (λ router port copy. IsOnTree g router copy) net r p slot packet is.fit.stand place own);
     once = once;
   };
 }
@@ -113,18 +72,9 @@ entry_beside g net mid r port slot out side expected way left some go mid_is sid
 pub nothing_stands : (g : Grid) (vcs r p slot : ℕ) (copy : NetCopy) → at (no_copies g vcs) r p slot ≡ Some copy → ⊥
 nothing_stands g vcs r p slot copy stands = let none = at-empty {P = NetCopy} (tiles g) vcs true r p slot in cc
 
-get_replicate : {X : Type 0} (count n : ℕ) (x y : X) → slice_get (replicate count x) n ≡ Some y → y ≡ x
-get_replicate zero n x y there = cc
-get_replicate (suc count) zero x y there = cc
-get_replicate (suc count) (suc n) x y there = get_replicate count n x y there
-
 pub sound_empty : (g : Grid) (vcs : ℕ) → CopiesHold g vcs (no_copies g vcs)
 sound_empty g vcs = record {
-  channels = record {
-    routers = length-replicate (tiles g) (empty_channels vcs true);
-    ports = λ n channels there. ap length (get_replicate (tiles g) n (empty_channels vcs true) channels there);
-    slots = λ n q channels there. ap (λ (bank : Channels NetCopy). length (slots_at bank q)) (get_replicate (tiles g) n (empty_channels vcs true) channels there);
-  };
+  channels = HasChannels-empty g vcs true;
   fit = record {
     stand = λ r p slot copy stands. absurd (nothing_stands g vcs r p slot copy stands);
     once = λ name tile. let none = owing-absent g (no_copies g vcs) name tile (λ r p slot copy stands. absurd (nothing_stands g vcs r p slot copy stands)) in omega arith;
