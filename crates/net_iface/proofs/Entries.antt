@@ -38,6 +38,10 @@ entry_by entries place name (Some source) found is = record { source = source; t
 entry_of : (entries : List ℕ) (place : ℕ) (name : Name) → entry_at entries place ≡ Some name → IsEntry entries place name
 entry_of entries place name is = entry_by entries place name (slice_get entries place) refl is
 
+-- an entry is one of those that there are
+pub entry_within : (entries : List ℕ) (place : ℕ) (name : Name) → entry_at entries place ≡ Some name → place < length entries
+entry_within entries place name is = let entry = entry_of entries place name is in slice_get_within entries place entry.source entry.there
+
 all_at : (P : ℕ → Type 0) (xs : List ℕ) (k x : ℕ) → AllByRecursion P xs → slice_get xs k ≡ Some x → P x
 all_at P [] k x all is = cc
 all_at P (y ∷ xs) zero x all is = let same : y ≡ x = cc in subst P same all.0

@@ -22,7 +22,7 @@ use Rattle.chip_model.specs.Copies.{no_copies}
 use Rattle.chip_model.specs.OrderedNetwork.{Interface, opening_network}
 use Rattle.chip_model.specs.Bookkeeping.{count_by_tile}
 use Rattle.chip_model.specs.CopiesOwed.{channel_count, times_named}
-use Rattle.net_iface.proofs.Laws.{NothingStands, NothingIsOwed}
+use Rattle.net_iface.proofs.LawsOfParts.{NothingStands, NothingIsOwed}
 use Rattle.net_iface.proofs.Interfaces.{as_interface}
 use Rattle.window_core.specs.Windows.{opening_state}
 use Rattle.net_iface.specs.Unordered.{unordered_at}

@@ -11,7 +11,7 @@ use Rattle.net_iface.specs.Parts.{network_of, interface_of}
 use Rattle.net_iface.proofs.InsideParts.{parts}
 use Rattle.net_iface.proofs.Expected.{interface_at}
 use Rattle.net_iface.proofs.Injects.{next_is, next_source, next_number, no_next, absent, has_room, made_below, next_made, AreKept-inject, inject_seen}
-use Rattle.net_iface.proofs.Laws.{room_for_names}
+use Rattle.net_iface.proofs.LawsOfParts.{room_for_names}
 use Rattle.net_iface.proofs.Places.{count_read, risen}
 use Rattle.net_iface.proofs.Steps.{on_err, after_inject-some, after_inject-full, after_inject-none}
 use Rattle.net_iface.proofs.ordered_net.OrderedNet.inject.Goals as goal

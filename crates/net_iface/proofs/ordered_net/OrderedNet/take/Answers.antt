@@ -2,7 +2,7 @@ use Rattle.std.proofs.Common.{◌≤◌, length, Some, ap, ◌∙◌, sym, refl,
 use Rattle.mesh_gen.specs.Grid.{tiles}
 use Rattle.net_iface.specs.Parts.{network_of}
 use Rattle.net_iface.proofs.InsideParts.{parts}
-use Rattle.net_iface.proofs.Laws.{room_for_names}
+use Rattle.net_iface.proofs.LawsOfParts.{room_for_names}
 use Rattle.net_iface.proofs.Steps.{after_vector_take-some, after_vector_take-none}
 use Rattle.chip_model.specs.Windows.{Windows}
 use Rattle.net_iface.proofs.Views.{windows_seen}

@@ -1,6 +1,6 @@
 use Rattle.net_iface.proofs.InsideParts.{parts}
 use Rattle.net_iface.proofs.Clauses.{network_fits, few_are_left}
-use Rattle.net_iface.proofs.Laws.{room_for_names}
+use Rattle.net_iface.proofs.LawsOfParts.{room_for_names}
 use Rattle.net_iface.proofs.Moving.{few_moves}
 use Rattle.net_iface.proofs.OneOrders.{one_order}
 use Rattle.net_iface.proofs.ordered_net.OrderedNet.tiles.Goals as goal
