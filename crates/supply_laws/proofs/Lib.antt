@@ -1,4 +1,9 @@
+pub mod LastPlaces
 pub mod OwnerGets
+pub mod WriteBackPlaces
+pub mod WriteBackCounts
+pub mod WriteBackSends
+pub mod WordsDue
 pub mod GetPlaces
 pub mod PlaceSteps
 pub mod PlaceEvents
@@ -11,3 +16,13 @@ pub mod DataSends
 pub mod WaitingGets
 pub mod Carried
 pub mod DataKept
+pub mod UndeliveredRequests
+pub mod NewWriteBacks
+pub mod MemoryReached
+pub mod WriteBackEvents
+pub mod ReachedWords
+pub mod AnsweredHomes
+pub mod AnsweredLines
+pub mod ReturnedHomes
+pub mod LaterBacks
+pub mod HomeEvents
