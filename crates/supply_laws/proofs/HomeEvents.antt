@@ -220,7 +220,7 @@ homes_after d s new fits holds none (stays e) = λ t unit at.
     home_by new was.was.node unit.node was.same (home_stays s new was.was.node e.order e.due (home_before d s holds t was.was was.at))
 homes_after d s new fits holds none (orders more e) =
     same_units (λ t unit. HomeHolds new unit.node) s new e.grows.units (λ t unit at line r there.
-    line_grown s new more e line (holds.backs line) (holds.wait line) unit.node.delivered r (known_of d s holds t unit at).within (home_before d s holds t unit at line r there))
+    line_grown d s new more e line (holds.backs line) (holds.wait line) unit.node.delivered r (known_of d s holds t unit at).within (home_before d s holds t unit at line r there))
 homes_after d s new fits holds none (delivers e) =
     each_unit (λ t unit. HomeHolds new unit.node) s new e.tile e.unit e.after e.changes
     (home_stays s new e.after.node e.order e.due (delivered_home d s new fits holds none e (home_before d s holds e.tile e.unit e.changes.at)))
@@ -233,7 +233,7 @@ homes_after d s new fits holds none (returns e) =
 -- the words that are written back reach memory
 pub memory_after : (d : Doc) (s new : ChipState) → ProtocolHolds d s → BackEvent d s new → (line : ℕ) → ReachesMemory new line
 memory_after d s new holds (stays e) line = reaches_still s new line e.order (omega (arith, e.due line)) e.counts (holds.backs line)
-memory_after d s new holds (orders more e) line = reaches_grown s new more e line (holds.wait line) (holds.backs line)
+memory_after d s new holds (orders more e) line = reaches_grown d s new more e line (holds.wait line) (holds.backs line)
 memory_after d s new holds (delivers e) line = reaches_still s new line e.order (omega (arith, e.due line)) e.counts (holds.backs line)
 memory_after d s new holds (returns e) line = reaches_still s new line e.order (omega (arith, e.due line)) e.counts (holds.backs line)
 

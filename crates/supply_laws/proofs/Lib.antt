@@ -5,7 +5,6 @@ pub mod WriteBackCounts
 pub mod WriteBackSends
 pub mod WordsDue
 pub mod GetPlaces
-pub mod UndeliveredRequests
 pub mod NewWriteBacks
 pub mod MemoryReached
 pub mod WriteBackEvents

@@ -4,6 +4,7 @@ use Rattle.std.specs.Prelude.{is_some, slice_get}
 use Rattle.std.proofs.lemmas.Bool.{both_ways, cases_lt, cases_eq, leb-true, le-leb, and_from}
 use Rattle.mesh_gen.specs.declared.request.Request.{Request}
 use Rattle.chip_model.specs.Units.{UnitState}
+use Rattle.doc_text.specs.Doc.{Doc}
 use Rattle.chip_model.specs.ChipState.{ChipState}
 use Rattle.chip_model.specs.Suppliers.{count_of, delivered_at, writes_back, last_written_back, is_undelivered_at, is_undelivered, ReachesMemory, GetsWait}
 use Rattle.net_iface.proofs.Named.{slice_get-append_left}
@@ -40,7 +41,7 @@ longer_none p n m (Some place) is none = record {
   after = λ k above below. elim (cases_lt k n) [ inl old ↦ is.after k above (omega (arith, old)) | inr new ↦ none k new (omega (arith, below)) ];
 }
 
-module _ (s new : ChipState) (more : List Request) (orders : OrdersMore s new more) (line : ℕ) where
+module _ (d : Doc) (s new : ChipState) (more : List Request) (orders : OrdersMore d s new more) (line : ℕ) where
   abbrev before : List Request
   before = s.network.ordered
 
@@ -69,7 +70,7 @@ module _ (s new : ChipState) (more : List Request) (orders : OrdersMore s new mo
   due_same none = omega (arith, due_grown s new more line orders.grows orders.within, count_none writes (length before) (length more) none)
 
   -- the new one is the last one, and its words are due
-  pub last_new : (place : ℕ) → IsNewBack s new more orders line place → last_written_back line new.network.ordered ≡ Some place
+  pub last_new : (place : ℕ) → IsNewBack d s new more orders line place → last_written_back line new.network.ordered ≡ Some place
   last_new place is = last_now (Some place) (record {
     from = omega arith;
     below = omega (arith, is.below);
@@ -77,7 +78,7 @@ module _ (s new : ChipState) (more : List Request) (orders : OrdersMore s new mo
     after = λ k above below. is.only k (omega (arith, is.above, above)) (omega (arith, below)) (λ same. absurd (omega (arith, same, above)));
   })
 
-  pub due_new : (place : ℕ) → IsNewBack s new more orders line place → due new line ≡ 1
+  pub due_new : (place : ℕ) → IsNewBack d s new more orders line place → due new line ≡ 1
   due_new place is =
       omega (arith, due_grown s new more line orders.grows orders.within, is.none_due, count_only writes (length before) (length more) place is.above is.below is.writes is.only)
 
@@ -106,8 +107,8 @@ module _ (s new : ChipState) (more : List Request) (orders : OrdersMore s new mo
       by (Some q) is = is
 
   pub reaches_grown : GetsWait s line → ReachesMemory s line → ReachesMemory new line
-  reaches_grown waits is = by (new_back s new more orders line) (new_back_is s new more orders line is waits) where
-    by : (o : Option ℕ) → NewBackIs s new more orders line o → ReachesMemory new line
+  reaches_grown waits is = by (new_back d s new more orders line) (new_back_is d s new more orders line is waits) where
+    by : (o : Option ℕ) → NewBackIs d s new more orders line o → ReachesMemory new line
     by None none = record {
       once = omega (arith, is.once, due_same none);
       last = λ some. ap is_some (last_same none) ∙ is.last (omega (arith, some, due_same none));

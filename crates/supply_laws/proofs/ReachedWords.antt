@@ -9,6 +9,7 @@ use Rattle.chip_model.specs.declared.owner.Owner.TheVariants.{Memory, Tile}
 use Rattle.chip_model.specs.declared.waiting.Waiting.{Waiting}
 use Rattle.chip_model.specs.Records.{LineRecord}
 use Rattle.chip_model.specs.Node.{Node}
+use Rattle.doc_text.specs.Doc.{Doc}
 use Rattle.chip_model.specs.ChipState.{ChipState}
 use Rattle.chip_model.specs.Bookkeeping.{between, up_to_getm, waiting_for}
 use Rattle.chip_model.specs.Suppliers.{writes_back, places_written_back, next_from, last_written_back, is_last, has_reached_memory, next_written_back, has_come, is_fresh_by, waiters_after, ReachesMemory, GetsWait}
@@ -126,7 +127,7 @@ line_stays s new line n r order same is = record {
 }
 
 -- ---- the order grows
-module _ (s new : ChipState) (more : List Request) (orders : OrdersMore s new more) (line : ℕ) (reaches : ReachesMemory s line) (waits : GetsWait s line) where
+module _ (d : Doc) (s new : ChipState) (more : List Request) (orders : OrdersMore d s new more) (line : ℕ) (reaches : ReachesMemory s line) (waits : GetsWait s line) where
   abbrev before : List Request
   before = s.network.ordered
 
@@ -135,13 +136,13 @@ module _ (s new : ChipState) (more : List Request) (orders : OrdersMore s new mo
 
   -- whether an old one's words have reached memory stays
   reached_before : (place : ℕ) → place < length before → has_reached_memory new line place ≡ has_reached_memory s line place
-  reached_before place inside = by (new_back s new more orders line) (new_back_is s new more orders line reaches waits) where
-    by : (o : Option ℕ) → NewBackIs s new more orders line o → has_reached_memory new line place ≡ has_reached_memory s line place
+  reached_before place inside = by (new_back d s new more orders line) (new_back_is d s new more orders line reaches waits) where
+    by : (o : Option ℕ) → NewBackIs d s new more orders line o → has_reached_memory new line place ≡ has_reached_memory s line place
     by None none =
-        ap (λ (o : Option ℕ). not (is_last o place) || (due new line == 0)) (last_same s new more orders line none)
-        ∙ ap (λ (n : ℕ). not (is_last (last_written_back line before) place) || (n == 0)) (due_same s new more orders line none)
+        ap (λ (o : Option ℕ). not (is_last o place) || (due new line == 0)) (last_same d s new more orders line none)
+        ∙ ap (λ (n : ℕ). not (is_last (last_written_back line before) place) || (n == 0)) (due_same d s new more orders line none)
     by (Some y) one =
-        let last = last_new s new more orders line y one in
+        let last = last_new d s new more orders line y one in
         reached_not_last new line place (λ x is same. absurd (later x (sym last ∙ is) same))
         ∙ sym (reached_none s line place one.none_due)
       where
@@ -150,16 +151,16 @@ module _ (s new : ChipState) (more : List Request) (orders : OrdersMore s new mo
 
   -- the words of a new one have not
   new_not_reached : (place : ℕ) → length before ≤ place → writes_back line after place ≡ true → has_reached_memory new line place ≡ false
-  new_not_reached place above writes = by (new_back s new more orders line) (new_back_is s new more orders line reaches waits) where
+  new_not_reached place above writes = by (new_back d s new more orders line) (new_back_is d s new more orders line reaches waits) where
     within : place < length before + length more
     within = subst (λ (n : ℕ). place < n) (length-append before more) (writes_back_within line after place writes)
 
-    by : (o : Option ℕ) → NewBackIs s new more orders line o → has_reached_memory new line place ≡ false
+    by : (o : Option ℕ) → NewBackIs d s new more orders line o → has_reached_memory new line place ≡ false
     by None none = absurd (both_ways (writes_back line after place) (none place above within) writes)
     by (Some y) one = elim (cases_eq place y) [
       | inl same ↦ is_not_reached new line place (record {
-        last = last_new s new more orders line y one ∙ ap (λ (k : ℕ). Some k) (sym same);
-        some = omega (arith, due_new s new more orders line y one);
+        last = last_new d s new more orders line y one ∙ ap (λ (k : ℕ). Some k) (sym same);
+        some = omega (arith, due_new d s new more orders line y one);
       })
       | inr away ↦ absurd (both_ways (writes_back line after place) (one.only place above within away) writes)
     ]
