@@ -72,7 +72,8 @@ home_stays s new node order same is line r at = line_stays s new line node.deliv
 abbrev IsSet : Records → ℕ → LineRecord → ℕ → LineRecord → Type 0
 IsSet records m left line r = ((line ≡ m) × (r ≡ left)) ⊎ ((line ≢ m) × (slice_index_or records line None ≡ Some r))
 
-is_set : (records : Records) (m line : ℕ) (old left r : LineRecord) → slice_index_or records m None ≡ Some old → slice_index_or (set records m (Some left)) line None ≡ Some r → IsSet records m left line r
+is_set : (records : Records) (m line : ℕ) (old left r : LineRecord) → slice_index_or records m None ≡ Some old
+    → slice_index_or (set records m (Some left)) line None ≡ Some r → IsSet records m left line r
 is_set [] m line old left r there at = cc
 is_set (first ∷ records) zero zero old left r there at = inl (refl, sym (same_Some left r at))
 is_set (first ∷ records) zero (suc line) old left r there at = inr ((λ same. absurd (omega (arith, same))), at)

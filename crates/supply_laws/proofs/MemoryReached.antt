@@ -3,16 +3,15 @@ use Rattle.std.proofs.Common.{◌≡◌, ℕ, ◌+◌, ◌<◌, ◌≤◌, Bool,
 use Rattle.std.specs.Prelude.{is_some, slice_get}
 use Rattle.std.proofs.lemmas.Bool.{both_ways, cases_lt, cases_eq, leb-true, le-leb, and_from}
 use Rattle.mesh_gen.specs.declared.request.Request.{Request}
-use Rattle.chip_model.specs.Units.{UnitState}
 use Rattle.doc_text.specs.Doc.{Doc}
 use Rattle.chip_model.specs.ChipState.{ChipState}
-use Rattle.chip_model.specs.Suppliers.{count_of, delivered_at, writes_back, last_written_back, is_undelivered_at, is_undelivered, ReachesMemory, GetsWait}
+use Rattle.chip_model.specs.Suppliers.{delivered_at, writes_back, last_written_back, is_undelivered_at, is_undelivered, ReachesMemory, GetsWait}
 use Rattle.net_iface.proofs.Named.{slice_get-append_left}
 use Rattle.chip_laws.proofs.WaitsToCome.{count_by-some}
 use Rattle.supply_laws.proofs.LastPlaces.{LastIs, NonePasses, last_agrees, last_unique, count_none, count_only}
 use Rattle.supply_laws.proofs.WriteBackPlaces.{writes_back_grown, writes_back_within, last_of_all}
 use Rattle.supply_laws.proofs.WriteBackCounts.{waits_at, is_to_write_back, to_come_is}
-use Rattle.supply_laws.proofs.WordsDue.{due, due_grown}
+use Rattle.supply_laws.proofs.WordsDue.{due, units_counts, due_grown}
 use Rattle.supply_laws.proofs.NewWriteBacks.{OrdersMore, IsNewBack, NewBackIs, new_back, new_back_is}
 
 -- ---- the order stays
@@ -85,8 +84,9 @@ module _ (d : Doc) (s new : ChipState) (more : List Request) (orders : OrdersMor
   undelivered_before : (place : ℕ) → place < length before → is_undelivered new place ≡ true → is_undelivered s place ≡ true
   undelivered_before place inside waits =
       by_counts s new place (slice_get before place)
-      (λ v. let same : delivered_at new v ≡ delivered_at s v = ap (λ (us : List UnitState). count_of (slice_get us v)) orders.grows.units in omega (arith, same))
-      (sym (ap (λ (rs : List Request). is_undelivered_at new place (slice_get rs place)) orders.grows.order ∙ ap (is_undelivered_at new place) (slice_get-append_left before more place inside)) ∙ waits)
+      (λ v. let same = units_counts s new orders.grows.units v in omega (arith, same))
+      (sym (ap (λ (rs : List Request). is_undelivered_at new place (slice_get rs place)) orders.grows.order
+      ∙ ap (is_undelivered_at new place) (slice_get-append_left before more place inside)) ∙ waits)
 
   writes_now : (place : ℕ) → writes_back line new.network.ordered place ≡ true → writes place ≡ true
   writes_now place is = ap (λ (rs : List Request). writes_back line rs place) (sym orders.grows.order) ∙ is

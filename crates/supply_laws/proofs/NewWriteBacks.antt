@@ -1,7 +1,7 @@
--- The order grows: at most one of its new requests writes a line back, and none does while words are due from an earlier one.
+-- Of the requests by which the order grows at most one writes a line back, and none while words of the line are due.
 use Rattle.std.proofs.Common.{◌≡◌, ◌≢◌, ℕ, ◌+◌, ◌<◌, ◌≤◌, true, false, List, ◌++◌, length, refl, sym, ◌∙◌, ap, arith, inl, inr, Option, Some, None}
 use Rattle.std.specs.Prelude.{◌==◌, is_some, slice_get}
-use Rattle.std.proofs.lemmas.Bool.{eq-eqb, both_ways, cases_lt, cases_eq, false≢true, false_from_ne_true}
+use Rattle.std.proofs.lemmas.Bool.{eq-eqb, both_ways, cases_lt, cases_order, false≢true, false_from_ne_true}
 use Rattle.std.proofs.lemmas.Option.{same_Some}
 use Rattle.mesh_gen.specs.declared.kind.Kind.TheVariants.{GetM, PutM}
 use Rattle.mesh_gen.specs.declared.request.Request.{Request}
@@ -57,18 +57,13 @@ getm_not_putm q r same get put = let kinds : GetM ≡ PutM = sym get ∙ ap (λ 
 
 -- it stands after each earlier request that writes the line back
 pub get_after_back : (line k place : ℕ) (ordered : List Request) → writes_back line ordered k ≡ true → k < place → (from : BackFrom line place ordered) → k < from.get.place
-get_after_back line k place ordered writes before from = elim (cases_lt k from.get.place) [
-  | inl less ↦ less
-  | inr above ↦ elim (cases_eq from.get.place k) [
-    | inl same ↦ (
-        let earlier = back_of line k ordered writes in
-        absurd (getm_not_putm from.get.get earlier.put (same_Some from.get.get earlier.put (sym from.get.at ∙ (ap (slice_get ordered) same ∙ earlier.at))) from.get.kind earlier.kind))
-    | inr away ↦ absurd (both_ways (writes_back line ordered k) (from.get.last.backs k (next from.get.place k above away) before) writes)
-  ]
+get_after_back line k place ordered writes before from = elim (cases_order k from.get.place) [
+  | inl same ↦ (
+      let earlier = back_of line k ordered writes in
+      absurd (getm_not_putm from.get.get earlier.put (same_Some from.get.get earlier.put (sym from.get.at ∙ (ap (slice_get ordered) (sym same) ∙ earlier.at))) from.get.kind earlier.kind))
+  | inr (inl less) ↦ less
+  | inr (inr more) ↦ absurd (both_ways (writes_back line ordered k) (from.get.last.backs k (omega (arith, more)) before) writes)
 ]
-  where
-    next : (a b : ℕ) → a ≤ b → a ≢ b → a + 1 ≤ b
-    next a b le ne = elim (cases_lt a b) [ inl less ↦ omega (arith, less) | inr more ↦ absurd (ne (omega (arith, le, more))) ]
 
 -- ---- what the order grows by
 module _ (d : Doc) (s new : ChipState) (more : List Request) (orders : OrdersMore d s new more) (line : ℕ) where
@@ -84,8 +79,8 @@ module _ (d : Doc) (s new : ChipState) (more : List Request) (orders : OrdersMor
   -- the write-back at a new place is the tile's
   put_for : (place : ℕ) (from : BackFrom line place after) → (tile : TileOfSource d s new from.back.put.source) → length before ≤ place → MeetsBack tile.unit.node.side from.back.put
   put_for place from tile above =
-      undelivered_put new.network from.back.put.source tile.ticked.interface tile.unit.node place from.back.put tile.ticked.agrees tile.ticked.node.agrees (new_at place from.back.put from.back.at) refl
-      (omega (arith, tile.within, above)) (ap is_get from.back.kind)
+      undelivered_put new.network from.back.put.source tile.ticked.interface tile.unit.node place from.back.put tile.ticked.agrees tile.ticked.node.agrees
+      (new_at place from.back.put from.back.at) refl (omega (arith, tile.within, above)) (ap is_get from.back.kind)
 
   -- a tile does not wait for the line that it writes back
   not_both : (unit : UnitState) (put : Request) (demand : Demand) → SideFits unit.node.chip unit.node.side → unit.node.side.misses.demand ≡ Some demand → demand.line ≡ line
@@ -145,9 +140,6 @@ module _ (d : Doc) (s new : ChipState) (more : List Request) (orders : OrdersMor
   abbrev pub new_back : Option ℕ
   new_back = last (passing (writes_back line after) (length before) (length more))
 
-  zero_due : (n : ℕ) → (0 < n → ⊥) → n ≡ 0
-  zero_due n none = elim (cases_lt 0 n) [ inl some ↦ absurd (none some) | inr few ↦ omega (arith, few) ]
-
   pub new_back_is : ReachesMemory s line → GetsWait s line → NewBackIs new_back
   new_back_is reaches waits = by new_back (last_is (writes_back line after) (length before) (length more)) where
     by : (o : Option ℕ) → LastIs (writes_back line after) (length before) (length more) o → NewBackIs o
@@ -158,10 +150,7 @@ module _ (d : Doc) (s new : ChipState) (more : List Request) (orders : OrdersMor
       writes = is.passes;
       only = λ k above below away. elim (cases_lt place k) [
         | inl later ↦ is.after k later below
-        | inr earlier ↦ false_from_ne_true (writes_back line after k) (λ writes. one_new k place above (strictly k place earlier away) writes is.passes)
+        | inr earlier ↦ false_from_ne_true (writes_back line after k) (λ writes. one_new k place above (omega (arith, earlier, away)) writes is.passes)
       ];
-      none_due = zero_due (due s line) (λ some. none_while_due reaches waits some place is.from is.passes);
+      none_due = let none : 0 < due s line → ⊥ = λ some. none_while_due reaches waits some place is.from is.passes in omega (arith, none);
     }
-      where
-        strictly : (a b : ℕ) → a ≤ b → a ≢ b → a < b
-        strictly a b le ne = elim (cases_lt a b) [ inl less ↦ less | inr more ↦ absurd (ne (omega (arith, le, more))) ]

@@ -1,4 +1,4 @@
--- Whether written-back words have reached memory, and what that says of a record at home: where the order stays or grows.
+-- Whether written-back words have reached memory, and what that says of a record, where the order stays and where it grows.
 use Rattle.std.proofs.Common.{◌≡◌, ◌≢◌, ℕ, ◌+◌, ◌<◌, ◌≤◌, Bool, true, false, cond, List, [], ◌++◌, length, length-append, take, refl, sym, ◌∙◌, ap, subst, arith, inl, inr, Option, Some, None}
 use Rattle.std.specs.Prelude.{◌==◌, ◌||◌, not}
 use Rattle.std.proofs.lemmas.Bool.{both_ways, cases_lt, cases_eq, false≢true, or_left, or_right, or_parts, or_from, not-false, not_from_true, not_from_false, eq-eqb, eqb-true, eqb-false, ne_eqb}
@@ -54,11 +54,8 @@ not_reached s line place is =
     let both = or_parts (not (is_last (last_written_back line s.network.ordered) place)) (due s line == 0) is in
     record {
       last = last_is_place (last_written_back line s.network.ordered) place (not-false (is_last (last_written_back line s.network.ordered) place) both.0);
-      some = positive (due s line) (eqb-false (due s line) 0 both.1);
+      some = let away = eqb-false (due s line) 0 both.1 in omega (arith, away);
     }
-  where
-    positive : (n : ℕ) → (n ≡ 0 → ⊥) → 0 < n
-    positive n away = elim (cases_lt 0 n) [ inl more ↦ more | inr none ↦ absurd (away (omega (arith, none))) ]
 
 pub is_not_reached : (s : ChipState) (line place : ℕ) → IsDue s line place → has_reached_memory s line place ≡ false
 is_not_reached s line place is =
@@ -183,7 +180,8 @@ module _ (d : Doc) (s new : ChipState) (more : List Request) (orders : OrdersMor
   longer : length before ≤ length after
   longer = omega (arith, length-append before more)
 
-  next_grown : (n : ℕ) (o : Option ℕ) → next_written_back s line n ≡ o → NextIs (writes_back line before) (length before) n o → has_come new line false (next_written_back new line n) ≡ has_come s line false o
+  next_grown : (n : ℕ) (o : Option ℕ) → next_written_back s line n ≡ o → NextIs (writes_back line before) (length before) n o
+      → has_come new line false (next_written_back new line n) ≡ has_come s line false o
   next_grown n (Some place) was is =
       ap (has_come new line false)
       (next_unique (writes_back line after) (length after) n (next_written_back new line n) (Some place) (next_now n) (record {

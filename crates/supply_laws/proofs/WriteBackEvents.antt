@@ -1,5 +1,4 @@
--- What each event is to the words that are written back: it changes nothing of them, orders more requests, delivers one, or
--- brings words home.
+-- What an event does about written-back words: nothing, or it orders requests, delivers one, or brings words home.
 use Rattle.std.proofs.Common.{◌≡◌, ℕ, ◌+◌, ◌<◌, ◌≤◌, List, refl, sym, ◌∙◌, ap, subst, arith, inl, inr, Option, Some}
 use Rattle.std.specs.Prelude.{◌==◌, ◌&&◌, slice_get}
 use Rattle.std.proofs.lemmas.Bool.{cases_eq}
@@ -22,7 +21,7 @@ use Rattle.chip_model.specs.BehaviourLaws.{KeepsLaws, Works}
 use Rattle.chip_model.specs.NodeShape.{IsCache}
 use Rattle.chip_model.specs.NetworkShape.{MessageFits}
 use Rattle.chip_model.specs.ChipInvariant.{ProtocolHolds}
-use Rattle.chip_model.specs.Suppliers.{count_of, delivered_at, is_back_for}
+use Rattle.chip_model.specs.Suppliers.{delivered_at, is_back_for}
 use Rattle.net_iface.proofs.Entries.{source_below}
 use Rattle.net_iface.proofs.Ticks.{keeps-tick}
 use Rattle.reply_net.proofs.Accounts.{Nearer, received_is, total-after_send, total-after_data_hop}
@@ -38,13 +37,13 @@ use Rattle.chip_laws.proofs.TileAgreements.{keeps_of, own_request_fits}
 use Rattle.chip_laws.proofs.RequestsInside.{tile_of, tiles_some, request_inside}
 use Rattle.chip_laws.proofs.NetworkFrames.{injected_sets, delivered_sets}
 use Rattle.chip_laws.proofs.OrderGrows.{posted_order, taken_order, hopped_order}
-use Rattle.supply_laws.proofs.WordsDue.{due, backs_in_channels, channels_same, due_unchanged, due_stepped, due_delivered, due_comes}
+use Rattle.supply_laws.proofs.WordsDue.{due, backs_in_channels, channels_same, units_counts, due_unchanged, due_stepped, due_delivered, due_comes}
 use Rattle.supply_laws.proofs.WriteBackSends.{backs_in}
 use Rattle.supply_laws.proofs.Ticked.{accords_of, ticked}
 use Rattle.supply_laws.proofs.NewWriteBacks.{OrdersMore}
 
 -- ---- the four things that an event may be
--- a step that leaves the records and the queued words of a node
+-- a step that leaves the records of a node, and how many requests it has delivered
 pub record SameHome (old new : Node) : Type 0 where
   pub records : new.records ≡ old.records
   pub delivered : new.delivered ≡ old.delivered
@@ -105,14 +104,11 @@ same_order s new same = ap (λ (net : OrderedNetwork). net.ordered) same
 counts_le : (s new : ChipState) → ((v : ℕ) → delivered_at new v ≡ delivered_at s v) → (v : ℕ) → delivered_at s v ≤ delivered_at new v
 counts_le s new same v = omega (arith, same v)
 
-units_counts : (s new : ChipState) → new.units ≡ s.units → (v : ℕ) → delivered_at s v ≤ delivered_at new v
-units_counts s new units = counts_le s new (λ v. ap (λ (us : List UnitState). count_of (slice_get us v)) units)
-
 no_unit : (d : Doc) (s new : ChipState) → new.units ≡ s.units → new.network.ordered ≡ s.network.ordered → ((line : ℕ) → backs_in_channels new line ≡ backs_in_channels s line) → BackEvent d s new
 no_unit d s new units order channels = stays (record {
   order = order;
   due = λ line. due_unchanged s new line units order (channels line);
-  counts = units_counts s new units;
+  counts = counts_le s new (units_counts s new units);
   homes = same_units (λ t unit. WasHome s t unit.node) s new units (λ t unit at. record { was = unit; at = at; same = record { records = refl; delivered = refl } });
 })
 
