@@ -6,6 +6,7 @@ pub mod WriteBackSends
 pub mod WordsDue
 pub mod GetPlaces
 pub mod PlaceSteps
+pub mod GrownPlaces
 pub mod PlaceEvents
 pub mod Undelivered
 pub mod Ticked
