@@ -16,6 +16,7 @@ pub mod LaterBacks
 pub mod HomeEvents
 pub mod HomesOpened
 pub mod PlaceSteps
+pub mod GrownPlaces
 pub mod PlaceEvents
 pub mod Undelivered
 pub mod Ticked
