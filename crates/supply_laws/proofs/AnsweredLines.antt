@@ -116,7 +116,8 @@ module _ (s : ChipState) (line n : ℕ) (q : Request) (r : LineRecord) (at : sli
   -- it is the last one of all
   due_last : (place : ℕ) → prefix ≡ Some place → has_reached_memory s line place ≡ false → NoneLater ordered line n
   due_last place place_is late k above below =
-      let last : IsLastOf (writes_back line ordered) 0 (length ordered) place = subst (LastIs (writes_back line ordered) 0 (length ordered)) (not_reached s line place late).last (last_of_all line ordered) in
+      let last : IsLastOf (writes_back line ordered) 0 (length ordered) place =
+      subst (LastIs (writes_back line ordered) 0 (length ordered)) (not_reached s line place late).last (last_of_all line ordered) in
       let earlier = last_below line n place ordered within place_is in
       last.after k (omega (arith, earlier, above)) (omega (arith, below))
 

@@ -42,7 +42,8 @@ use Rattle.supply_laws.proofs.Carried.{sent_stands, hopped_stands, received_leav
 use Rattle.supply_laws.proofs.DataSends.{DataIs, AllDataIs, delivered_data, arrived_data, sent_data}
 use Rattle.supply_laws.proofs.GetPlaces.{one_counts, open_place}
 use Rattle.supply_laws.proofs.OneToComes.{nothing_comes}
-use Rattle.supply_laws.proofs.PlaceEvents.{KeepsPlaces, KeepsOrTicks, keeps_or_ticks, grown_place}
+use Rattle.supply_laws.proofs.PlaceEvents.{KeepsPlaces, KeepsOrTicks, keeps_or_ticks}
+use Rattle.supply_laws.proofs.GrownPlaces.{grown_place}
 use Rattle.supply_laws.proofs.Ticked.{Ticked, ticked}
 use Rattle.supply_laws.proofs.WaitingGets.{supplies_waiting, demand_waits, waiters_wait}
 
@@ -179,7 +180,7 @@ still_waits d s new t line holds keeps supplied was some =
         same = was.same;
       }
       | inr ends ↦ (
-          let none = nothing_comes (chip_of d) new t now.0.node (keeps.tiles t was.unit now.0 was.unit_at now.1 ∙ here.holds.node.agrees.tile) (supplied t now.0 now.1) ends in
+          let none = nothing_comes (chip_of d) new t now.0.node (keeps.tiles t was.unit now.0 was.unit_at now.1 ∙ here.holds.node.agrees.tile) (supplied t now.0 now.1) ends.0 in
           absurd (omega (arith, none, some)))
     ]
 

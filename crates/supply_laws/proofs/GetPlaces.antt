@@ -202,3 +202,34 @@ undelivered_open ordered node place q few at get beyond =
         → (b : Bool) → is_get_of node.tile r ≡ b → is_get_of node.tile r ≡ false
     other k r from before there one true also = absurd (omega (arith, one, both_count ordered node.tile node.delivered k place r q there also from before at get))
     other k r from before there one false fails = fails
+
+-- a tile that waits for no get has none that is ordered and not complete
+no_count : {X : Type 0} (p : X → Bool) (xs : List X) → ((k : ℕ) (x : X) → slice_get xs k ≡ Some x → p x ≡ false) → count_by p xs ≡ 0
+no_count p [] none = refl
+no_count p (x ∷ xs) none =
+    let here : count_if (p x) ≡ 0 = ap count_if (none 0 x refl) in
+    omega (arith, here, no_count p xs (λ k y at. none (suc k) y at), count_by-cons p x xs)
+
+pub record WaitsForNone (ordered : List Request) (node : Node) : Type 0 where
+  pub unordered : is_ordered node.side.misses.demand ≡ false
+  pub undelivered : count_by (is_get_of node.tile) (drop node.delivered ordered) ≡ 0
+
+unordered_place : (entry : Option Demand) → place_of_ordered entry ≡ None → is_ordered entry ≡ false
+unordered_place None is = refl
+unordered_place (Some demand) is = ap is_some is
+
+pub none_waits : (ordered : List Request) (node : Node) → open_place ordered node ≡ None → WaitsForNone ordered node
+none_waits ordered node is =
+    by (place_of_ordered node.side.misses.demand) (first_get ordered node.tile node.delivered) refl refl (first_get_is ordered node.tile node.delivered) is where
+      by : (o p : Option ℕ) → place_of_ordered node.side.misses.demand ≡ o → first_get ordered node.tile node.delivered ≡ p
+          → FirstGetIs ordered node.tile node.delivered (first_get ordered node.tile node.delivered) → option_or (place_of_ordered node.side.misses.demand) (first_get ordered node.tile node.delivered) ≡ None
+          → WaitsForNone ordered node
+      by (Some k) p o_is p_is first none = none_some k (sym none ∙ ap (λ (x : Option ℕ). option_or x (first_get ordered node.tile node.delivered)) o_is)
+      by None (Some k) o_is p_is first none = none_some k (sym none ∙ (ap (λ (x : Option ℕ). option_or x (first_get ordered node.tile node.delivered)) o_is ∙ p_is))
+      by None None o_is p_is first none =
+          let nothing : NoGet ordered node.tile node.delivered = subst (FirstGetIs ordered node.tile node.delivered) p_is first in
+          record {
+            unordered = unordered_place node.side.misses.demand o_is;
+            undelivered = no_count (is_get_of node.tile) (drop node.delivered ordered)
+                (λ k q at. nothing (node.delivered + k) q (omega arith) (sym (get_drop ordered node.delivered k) ∙ at));
+          }

@@ -72,7 +72,8 @@ home_stays s new node order same is line r at = line_stays s new line node.deliv
 abbrev IsSet : Records → ℕ → LineRecord → ℕ → LineRecord → Type 0
 IsSet records m left line r = ((line ≡ m) × (r ≡ left)) ⊎ ((line ≢ m) × (slice_index_or records line None ≡ Some r))
 
-is_set : (records : Records) (m line : ℕ) (old left r : LineRecord) → slice_index_or records m None ≡ Some old → slice_index_or (set records m (Some left)) line None ≡ Some r → IsSet records m left line r
+is_set : (records : Records) (m line : ℕ) (old left r : LineRecord) → slice_index_or records m None ≡ Some old
+    → slice_index_or (set records m (Some left)) line None ≡ Some r → IsSet records m left line r
 is_set [] m line old left r there at = cc
 is_set (first ∷ records) zero zero old left r there at = inl (refl, sym (same_Some left r at))
 is_set (first ∷ records) zero (suc line) old left r there at = inr ((λ same. absurd (omega (arith, same))), at)
@@ -220,7 +221,7 @@ homes_after d s new fits holds none (stays e) = λ t unit at.
     home_by new was.was.node unit.node was.same (home_stays s new was.was.node e.order e.due (home_before d s holds t was.was was.at))
 homes_after d s new fits holds none (orders more e) =
     same_units (λ t unit. HomeHolds new unit.node) s new e.grows.units (λ t unit at line r there.
-    line_grown s new more e line (holds.backs line) (holds.wait line) unit.node.delivered r (known_of d s holds t unit at).within (home_before d s holds t unit at line r there))
+    line_grown d s new more e line (holds.backs line) (holds.wait line) unit.node.delivered r (known_of d s holds t unit at).within (home_before d s holds t unit at line r there))
 homes_after d s new fits holds none (delivers e) =
     each_unit (λ t unit. HomeHolds new unit.node) s new e.tile e.unit e.after e.changes
     (home_stays s new e.after.node e.order e.due (delivered_home d s new fits holds none e (home_before d s holds e.tile e.unit e.changes.at)))
@@ -233,7 +234,7 @@ homes_after d s new fits holds none (returns e) =
 -- the words that are written back reach memory
 pub memory_after : (d : Doc) (s new : ChipState) → ProtocolHolds d s → BackEvent d s new → (line : ℕ) → ReachesMemory new line
 memory_after d s new holds (stays e) line = reaches_still s new line e.order (omega (arith, e.due line)) e.counts (holds.backs line)
-memory_after d s new holds (orders more e) line = reaches_grown s new more e line (holds.wait line) (holds.backs line)
+memory_after d s new holds (orders more e) line = reaches_grown d s new more e line (holds.wait line) (holds.backs line)
 memory_after d s new holds (delivers e) line = reaches_still s new line e.order (omega (arith, e.due line)) e.counts (holds.backs line)
 memory_after d s new holds (returns e) line = reaches_still s new line e.order (omega (arith, e.due line)) e.counts (holds.backs line)
 

@@ -1,6 +1,5 @@
--- After a GetM that is not complete no request writes its line back; and a GetM that memory supplies is one, where its
--- home delivers it.
-use Rattle.std.proofs.Common.{◌≡◌, ◌≢◌, ℕ, ◌<◌, ◌≤◌, true, false, List, take, refl, sym, ◌∙◌, ap, subst, arith, inl, inr, Some, None}
+-- After a GetM that is not complete no request writes its line back.
+use Rattle.std.proofs.Common.{◌≡◌, ℕ, ◌<◌, ◌≤◌, true, false, List, take, refl, sym, ◌∙◌, ap, subst, arith, inl, inr, Some, None}
 use Rattle.std.specs.Prelude.{◌==◌, nat_le, slice_get, slice_index_or, is_some}
 use Rattle.std.proofs.lemmas.Bool.{cases_lt, cases_eq, false_from_ne_true, le-leb, eqb-true, eq-eqb, and_from}
 use Rattle.std.proofs.lemmas.Option.{same_Some}
@@ -52,14 +51,11 @@ none_after_open d s line g fits holds none is place before = false_from_ne_true 
     | inr away ↦ (
         let later = from_later line g place s.network.ordered is.get is.at is.kind is.same before from in
         let tile = tile_of d s from.get.get.source holds (source_inside d s from.get.place from.get.get fits holds from.get.at) in
-        let opens = (holds.wait line).after_write g from.get.place is.get from.get.get is.unit (strictly g from.get.place later away) is.at is.kind is.same is.unit_at is.waits
+        let opens = (holds.wait line).after_write g from.get.place is.get from.get.get is.unit (omega (arith, later, away)) is.at is.kind is.same is.unit_at is.waits
         from.get.at (ap is_get from.get.kind) from.get.same tile.unit tile.unit_at in
         none from.get.place place from.get.get from.back.put tile.unit from.get.at tile.unit_at opens from.get.before from.back.at from.back.kind (sym from.get.source)
         (from.back.same ∙ sym from.get.same))
   ]
-    where
-      strictly : (a b : ℕ) → a ≤ b → a ≢ b → a < b
-      strictly a b le ne = elim (cases_lt a b) [ inl less ↦ less | inr more ↦ absurd (ne (omega (arith, le, more))) ]
 
 -- ---- a GetM at the home that supplies it
 pub supplied_here : (d : Doc) (s : ChipState) (u line : ℕ) (unit : UnitState) (q : Request) (r : LineRecord) → DocFits d → ProtocolHolds d s → (own : Holds d s u unit)

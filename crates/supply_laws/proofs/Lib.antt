@@ -5,7 +5,6 @@ pub mod WriteBackCounts
 pub mod WriteBackSends
 pub mod WordsDue
 pub mod GetPlaces
-pub mod UndeliveredRequests
 pub mod NewWriteBacks
 pub mod MemoryReached
 pub mod WriteBackEvents
@@ -17,6 +16,7 @@ pub mod LaterBacks
 pub mod HomeEvents
 pub mod HomesOpened
 pub mod PlaceSteps
+pub mod GrownPlaces
 pub mod PlaceEvents
 pub mod Undelivered
 pub mod Ticked

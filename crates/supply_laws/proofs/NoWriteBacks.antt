@@ -17,7 +17,8 @@ use Rattle.chip_laws.proofs.OrderFrames.{known_of}
 use Rattle.chip_laws.proofs.RequestsInside.{tile_of, source_inside}
 use Rattle.supply_laws.specs.OpenGets.{NoneWritesBackBefore}
 use Rattle.supply_laws.proofs.GetPlaces.{open_place}
-use Rattle.supply_laws.proofs.PlaceEvents.{KeepsPlaces, KeepsOrTicks, grown_place}
+use Rattle.supply_laws.proofs.PlaceEvents.{KeepsPlaces, KeepsOrTicks}
+use Rattle.supply_laws.proofs.GrownPlaces.{grown_place}
 use Rattle.supply_laws.proofs.OpenGets.{open_get, none_written_back}
 use Rattle.supply_laws.proofs.Ticked.{Ticked, ticked}
 
@@ -34,7 +35,7 @@ keeps_none d s new fits holds keeps none g place get put unit at_get at waits be
     let tile = tile_of d s get.source holds (source_inside d s g get fits holds old_get) in
     elim (keeps.places get.source tile.unit unit tile.unit_at at) [
       | inl same ↦ none g place get put tile.unit old_get tile.unit_at (sym same ∙ waits) before (before_of s new place put keeps.order at_put) kind source line
-      | inr ends ↦ none_some g (sym ends ∙ waits)
+      | inr ends ↦ none_some g (sym ends.0 ∙ waits)
     ]
 
 -- the place of an open get is that before a tick, where it stands in the order before

@@ -1,32 +1,30 @@
 -- No get of a tile but the one for which it waits is to come to its supplier: every event keeps that.
-use Rattle.std.proofs.Common.{◌≡◌, ℕ, suc, ◌+◌, ◌<◌, ◌≤◌, Bool, true, false, refl, sym, ◌∙◌, ap, subst, arith, inl, inr, Option, Some, None, List, [], ◌∷◌, ◌++◌, take, drop, length}
-use Rattle.std.specs.Prelude.{◌&&◌, is_some, nat_le, slice_get}
+use Rattle.std.proofs.Common.{◌≡◌, ℕ, ◌<◌, ◌≤◌, Bool, true, refl, sym, ◌∙◌, ap, subst, arith, inl, inr, Option, Some, None, List, ◌++◌, take, drop, length}
+use Rattle.std.specs.Prelude.{◌&&◌, nat_le, slice_get}
 use Rattle.std.specs.List.{count_by}
-use Rattle.std.specs.Option.{option_or}
 use Rattle.std.proofs.lemmas.Bool.{false≢true, and_parts, cases_lt, leb-true, le-leb}
 use Rattle.std.proofs.lemmas.List.{take-append-le}
 use Rattle.mesh_gen.specs.declared.request.Request.{Request}
 use Rattle.mesh_gen.specs.Ports.{count_if}
 use Rattle.doc_text.specs.Doc.{Doc}
 use Rattle.chip_model.specs.Chip.{Chip, chip_of}
-use Rattle.chip_model.specs.Misses.{Demand}
 use Rattle.chip_model.specs.Node.{Node}
 use Rattle.chip_model.specs.Units.{UnitState}
 use Rattle.chip_model.specs.ChipState.{ChipState, opening}
 use Rattle.chip_model.specs.Ownership.{owner}
 use Rattle.chip_model.specs.Bookkeeping.{is_get_of}
-use Rattle.chip_model.specs.Suppliers.{count_of, delivered_at, supplier, is_to_come_at, is_to_come, is_ordered, answers_to_come, place_of_ordered, place_of_get, IsSupplied, OneToCome}
+use Rattle.chip_model.specs.Suppliers.{count_of, delivered_at, supplier, is_to_come_at, is_to_come, is_ordered, answers_to_come, place_of_get, IsSupplied, OneToCome}
 use Rattle.chip_model.specs.ChipInvariant.{ProtocolHolds}
 use Rattle.chip_laws.specs.DocFits.{DocFits}
 use Rattle.chip_laws.specs.Parts.{GetsAreSupplied}
 use Rattle.chip_laws.proofs.Options.{none_some}
 use Rattle.chip_laws.proofs.OrderFrames.{holds_at, known_of}
 use Rattle.chip_laws.proofs.SupplyBounds.{one_open}
-use Rattle.chip_laws.proofs.SupplyCounts.{count_by-cons}
 use Rattle.chip_laws.proofs.SuppliedComes.{OneOpen}
 use Rattle.chip_laws.proofs.WaitsToCome.{to_come_counts}
-use Rattle.supply_laws.proofs.GetPlaces.{NoGet, FirstGetIs, first_get, first_get_is, get_drop, open_place, undelivered_open}
-use Rattle.supply_laws.proofs.PlaceEvents.{KeepsPlaces, KeepsOrTicks, grown_place}
+use Rattle.supply_laws.proofs.GetPlaces.{none_waits, open_place, undelivered_open}
+use Rattle.supply_laws.proofs.PlaceEvents.{KeepsPlaces, KeepsOrTicks}
+use Rattle.supply_laws.proofs.GrownPlaces.{grown_place}
 use Rattle.supply_laws.proofs.NoWriteBacks.{before_of, stood_before}
 use Rattle.supply_laws.proofs.Ticked.{Ticked, ticked}
 
@@ -57,36 +55,6 @@ to_come_by chip s t place q at get before =
     ap (is_to_come_at chip s t place) at ∙ ap (λ (b : Bool). b && nat_le (delivered_at s v) place) get ∙ le-leb (delivered_at s v) place before
 
 -- ---- nothing is to come to a tile that waits for none
-no_count : {X : Type 0} (p : X → Bool) (xs : List X) → ((k : ℕ) (x : X) → slice_get xs k ≡ Some x → p x ≡ false) → count_by p xs ≡ 0
-no_count p [] none = refl
-no_count p (x ∷ xs) none =
-    let here : count_if (p x) ≡ 0 = ap count_if (none 0 x refl) in
-    omega (arith, here, no_count p xs (λ k y at. none (suc k) y at), count_by-cons p x xs)
-
-record WaitsForNone (ordered : List Request) (node : Node) : Type 0 where
-  pub unordered : is_ordered node.side.misses.demand ≡ false
-  pub undelivered : count_by (is_get_of node.tile) (drop node.delivered ordered) ≡ 0
-
-unordered_place : (entry : Option Demand) → place_of_ordered entry ≡ None → is_ordered entry ≡ false
-unordered_place None is = refl
-unordered_place (Some demand) is = ap is_some is
-
-none_waits : (ordered : List Request) (node : Node) → open_place ordered node ≡ None → WaitsForNone ordered node
-none_waits ordered node is =
-    by (place_of_ordered node.side.misses.demand) (first_get ordered node.tile node.delivered) refl refl (first_get_is ordered node.tile node.delivered) is where
-      by : (o p : Option ℕ) → place_of_ordered node.side.misses.demand ≡ o → first_get ordered node.tile node.delivered ≡ p
-          → FirstGetIs ordered node.tile node.delivered (first_get ordered node.tile node.delivered) → option_or (place_of_ordered node.side.misses.demand) (first_get ordered node.tile node.delivered) ≡ None
-          → WaitsForNone ordered node
-      by (Some k) p o_is p_is first none = none_some k (sym none ∙ ap (λ (x : Option ℕ). option_or x (first_get ordered node.tile node.delivered)) o_is)
-      by None (Some k) o_is p_is first none = none_some k (sym none ∙ (ap (λ (x : Option ℕ). option_or x (first_get ordered node.tile node.delivered)) o_is ∙ p_is))
-      by None None o_is p_is first none =
-          let nothing : NoGet ordered node.tile node.delivered = subst (FirstGetIs ordered node.tile node.delivered) p_is first in
-          record {
-            unordered = unordered_place node.side.misses.demand o_is;
-            undelivered = no_count (is_get_of node.tile) (drop node.delivered ordered)
-                (λ k q at. nothing (node.delivered + k) q (omega arith) (sym (get_drop ordered node.delivered k) ∙ at));
-          }
-
 pub nothing_comes : (chip : Chip) (s : ChipState) (t : ℕ) (node : Node) → node.tile ≡ t → IsSupplied chip s t node → place_of_get s node ≡ None → answers_to_come chip s t ≡ 0
 nothing_comes chip s t node tile supplied none =
     let waits = none_waits s.network.ordered node none in
@@ -116,7 +84,7 @@ keeps_one d s new holds keeps supplied t after at place comes =
     elim (keeps.places t was.0 after was.1 at) [
       | inl same ↦ same ∙ old
       | inr ends ↦ (
-          let none = nothing_comes (chip_of d) new t after.node (keeps.tiles t was.0 after was.1 at ∙ here.holds.node.agrees.tile) (supplied t after at) ends in
+          let none = nothing_comes (chip_of d) new t after.node (keeps.tiles t was.0 after was.1 at ∙ here.holds.node.agrees.tile) (supplied t after at) ends.0 in
           absurd (omega (arith, none, to_come_counts (chip_of d) new t place comes)))
     ]
 

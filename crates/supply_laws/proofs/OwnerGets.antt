@@ -239,7 +239,7 @@ is_put GetS is = absurd (false≢true is)
 is_put GetM is = absurd (false≢true is)
 is_put PutM is = refl
 
-is_owner : (t : ℕ) (owner : Owner) → is_tile t owner ≡ true → owner ≡ Tile t
+pub is_owner : (t : ℕ) (owner : Owner) → is_tile t owner ≡ true → owner ≡ Tile t
 is_owner t Memory is = absurd (false≢true is)
 is_owner t (Tile v) is = ap Tile (eqb-true v t is)
 

@@ -121,6 +121,15 @@ pub arrived_place : (ordered : List Request) (msg : Msg) (node : Node) → OneOp
 unfolding node_after_message
 arrived_place ordered msg node few = arrived_kind ordered msg node msg.kind few
 
+back_place : (ordered : List Request) (msg : Msg) (node : Node) (kind : MsgKind) → kind ≡ Back → open_place ordered (arrived_as msg node kind).0 ≡ open_place ordered node
+back_place ordered msg node Data kind = cc
+back_place ordered msg node Back kind = refl
+
+-- words that are written back complete none
+pub returned_place : (ordered : List Request) (msg : Msg) (node : Node) → msg.kind ≡ Back → open_place ordered (node_after_message msg node).0 ≡ open_place ordered node
+unfolding node_after_message
+returned_place ordered msg node kind = back_place ordered msg node msg.kind kind
+
 -- ---- a request is delivered
 -- one that is no get of the tile
 pub passed_place : (ordered : List Request) (old new : Node) (q : Request) → new.tile ≡ old.tile → new.delivered ≡ old.delivered + 1 → slice_get ordered old.delivered ≡ Some q
@@ -234,3 +243,24 @@ delivered_place ordered q node few at meets = by (q.source == node.tile) refl wh
   by false other =
       inl (passed_place ordered node (AfterOwn node (snooped_with node.chip q node.side (holding node.chip node.side q.line) q.kind).side) q refl refl at (no_own node.tile q other)
       (snooped_demand node.chip node.side q))
+
+own_ends : (ordered : List Request) (q : Request) (node : Node) (kind : Kind) → q.kind ≡ kind → slice_get ordered node.delivered ≡ Some q
+    → open_place ordered (AfterOwn node (own_request node.chip node.side node.delivered kind).side) ≡ None → (open_place ordered node ≡ None) ⊎ (is_get q.kind ≡ true)
+own_ends ordered q node GetS kind at none = inr (ap is_get kind)
+own_ends ordered q node GetM kind at none = inr (ap is_get kind)
+own_ends ordered q node PutM kind at none =
+    inl (sym (passed_place ordered node (AfterOwn node (own_request node.chip node.side node.delivered PutM).side) q refl refl at (ap (λ (k : Kind). is_get k && (q.source == node.tile)) kind)
+    (own_put_demand node.chip node.side node.side.misses.back)) ∙ none)
+
+-- only the delivery of its own get completes one
+pub delivered_ends : (ordered : List Request) (q : Request) (node : Node) → OneOpen ordered node.tile node → slice_get ordered node.delivered ≡ Some q → OwnRequestFits node.tile node.side q
+    → open_place ordered (node_after_request q node).0 ≡ None → (open_place ordered node ≡ None) ⊎ (((q.source == node.tile) ≡ true) × (is_get q.kind ≡ true))
+unfolding node_after_request after_snoop
+delivered_ends ordered q node few at meets none = by (q.source == node.tile) refl none where
+  by : (own : Bool) → (q.source == node.tile) ≡ own
+      → open_place ordered (AfterOwn node (cond own (own_request node.chip node.side node.delivered q.kind) (snooped_with node.chip q node.side (holding node.chip node.side q.line) q.kind)).side) ≡ None
+      → (open_place ordered node ≡ None) ⊎ (((q.source == node.tile) ≡ true) × (is_get q.kind ≡ true))
+  by true own ends = elim (own_ends ordered q node q.kind refl at ends) [ inl none_before ↦ inl none_before | inr get ↦ inr (own, get) ]
+  by false other ends =
+      inl (sym (passed_place ordered node (AfterOwn node (snooped_with node.chip q node.side (holding node.chip node.side q.line) q.kind).side) q refl refl at (no_own node.tile q other)
+      (snooped_demand node.chip node.side q)) ∙ ends)

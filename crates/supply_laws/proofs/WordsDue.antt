@@ -49,7 +49,7 @@ coming_same s new line order counts =
     ∙ to_write_same (delivered_at s) (delivered_at new) line s.network.ordered counts
     ∙ sym (to_come_is s line)
 
-units_counts : (s new : ChipState) → new.units ≡ s.units → (v : ℕ) → delivered_at new v ≡ delivered_at s v
+pub units_counts : (s new : ChipState) → new.units ≡ s.units → (v : ℕ) → delivered_at new v ≡ delivered_at s v
 units_counts s new units v = ap (λ (us : List UnitState). count_of (slice_get us v)) units
 
 -- ---- no unit changes
