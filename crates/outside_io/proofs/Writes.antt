@@ -62,7 +62,7 @@ Writes-failed {n1 = n1} {n2 = n2} {n3 = n3} {whole = whole} {piece = piece} rest
     }
 
 -- all that was left was written, or not
-pub Writes-last : {T E : Type 0} {h1 h2 h3 : Option (List ℕ)} {n1 n2 n3 : ℕ} {whole left : List ℕ} (result : Result T E)
-    → WritesAllBut (between h1 n1 h2 n2) whole left → Writes (between h2 n2 h3 n3) left result → Writes (between h1 n1 h3 n3) whole result
-Writes-last {left = left} (Ok x) written next = Writes-all x (WritesAllBut-more {E = _} written (sym (append-nil left)) next)
-Writes-last {left = left} (Err e) written next = Writes-failed [] (Err e) refl written (sym (append-nil left)) next
+pub Writes-last : {T E : Type 0} {h1 h2 h3 : Option (List ℕ)} {n1 n2 n3 : ℕ} {whole left piece : List ℕ} (result : Result T E)
+    → WritesAllBut (between h1 n1 h2 n2) whole left → left ≡ piece → Writes (between h2 n2 h3 n3) piece result → Writes (between h1 n1 h3 n3) whole result
+Writes-last {piece = piece} (Ok x) written last next = Writes-all x (WritesAllBut-more {E = _} written (last ∙ sym (append-nil piece)) next)
+Writes-last {piece = piece} (Err e) written last next = Writes-failed [] (Err e) refl written (last ∙ sym (append-nil piece)) next
