@@ -30,8 +30,10 @@ pub enum Command {
 impl Command {
     /// The command that the arguments name, where they are one of the forms.
     pub fn of(words: &[&str]) -> Option<Command>
-        ensures some { IfSome result (λ command. map (λ word. word.now) words.now ≡ argument_of command) }
-        ensures none { IfNone result ((command : Command) → map (λ word. word.now) words.now ≢ argument_of command) }
+        ensures some { IfSome result (λ command.
+            map (λ word. word.now) words.now ≡ argument_of command) }
+        ensures none { IfNone result ((command : Command)
+            → map (λ word. word.now) words.now ≢ argument_of command) }
     {
         match words {
             [word] => Command::named(word),
@@ -71,7 +73,8 @@ impl Command {
 
     // A text of the command for a document.
     fn write<K: Sink>(self, alloc: Global, document: &Document, sink: &mut K) -> Result<(), Stop>
-        ensures { WroteSome (IsTextOf self (doc_of document.now)) (stream K.held K.faults sink.old sink.new) result }
+        ensures { WroteSome (IsTextOf self (doc_of document.now))
+            (stream K.held K.faults sink.old sink.new) result }
     {
         match self {
             Command::Order => write_order(alloc, document, sink),

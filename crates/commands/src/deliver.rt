@@ -1,5 +1,4 @@
-ghost use Rattle.std.specs.Prelude.{◌≤◌, OnOk, OnErr};
-ghost use Rattle.outside_io.specs.Streams.{stream, Rose, Appends, AppendsPart};
+ghost use Rattle.outside_io.specs.Streams.{stream, Writes};
 ghost use Rattle.doc_text.specs.Doc.{doc_of};
 ghost use Rattle.chip_model.specs.OrderedNetwork.{sources};
 ghost use Rattle.chip_model.specs.Delivery.{delivered_lists};
@@ -27,7 +26,8 @@ pub(crate) fn write_deliveries<K: Sink>(
     document: &Document,
     sink: &mut K,
 ) -> Result<(), Stop>
-    ensures { WroteSome (IsDelivered (doc_of document.now)) (stream K.held K.faults sink.old sink.new) result }
+    ensures { WroteSome (IsDelivered (doc_of document.now))
+        (stream K.held K.faults sink.old sink.new) result }
 {
     let net = broadcast_posts(alloc, document)?;
     write_lines(sink, &net)?;
@@ -36,9 +36,8 @@ pub(crate) fn write_deliveries<K: Sink>(
 
 // The lines of all tiles.
 fn write_lines<K: Sink>(sink: &mut K, net: &OrderedNet) -> Result<(), WriteFault>
-    ensures ok { OnOk result (Appends (K.held sink.old) (K.held sink.new) (deliveries_text (delivered_lists net.now.network))) }
-    ensures err { OnErr result (AppendsPart (K.held sink.old) (K.held sink.new) (deliveries_text (delivered_lists net.now.network))) }
-    ensures fault { OnErr result (Rose (K.faults sink.old) (K.faults sink.new)) }
+    ensures { Writes (stream K.held K.faults sink.old sink.new)
+        (deliveries_text (delivered_lists net.now.network)) result }
 {
     for t in 0..net.tiles() {
         write_line(sink, t, net.delivered_requests(t))?;
@@ -48,10 +47,8 @@ fn write_lines<K: Sink>(sink: &mut K, net: &OrderedNet) -> Result<(), WriteFault
 
 // The line of a tile that has delivered these requests.
 fn write_line<K: Sink>(sink: &mut K, tile: u8, delivered: &[Request]) -> Result<(), WriteFault>
-    ensures ok { OnOk result (Appends (K.held sink.old) (K.held sink.new) (tile_line tile (sources delivered.now))) }
-    ensures err { OnErr result (AppendsPart (K.held sink.old) (K.held sink.new) (tile_line tile (sources delivered.now))) }
-    ensures fault { OnErr result (Rose (K.faults sink.old) (K.faults sink.new)) }
-    ensures count { K.faults sink.old ≤ K.faults sink.new }
+    ensures { Writes (stream K.held K.faults sink.old sink.new)
+        (tile_line tile (sources delivered.now)) result }
 {
     write_label(sink, tile)?;
     for request in delivered {
@@ -62,10 +59,7 @@ fn write_line<K: Sink>(sink: &mut K, tile: u8, delivered: &[Request]) -> Result<
 
 // What stands before a tile's list, as one piece.
 fn write_label<K: Sink>(sink: &mut K, tile: u8) -> Result<(), WriteFault>
-    ensures ok { OnOk result (Appends (K.held sink.old) (K.held sink.new) (label_text tile)) }
-    ensures err { OnErr result (AppendsPart (K.held sink.old) (K.held sink.new) (label_text tile)) }
-    ensures fault { OnErr result (Rose (K.faults sink.old) (K.faults sink.new)) }
-    ensures count { K.faults sink.old ≤ K.faults sink.new }
+    ensures { Writes (stream K.held K.faults sink.old sink.new) (label_text tile) result }
 {
     let mut label: ArrayString<LABEL_SIZE> = ArrayString::new();
     label.push_str("tile ");

@@ -1,13 +1,13 @@
-ghost use Rattle.std.specs.Prelude.{◌≡◌, ◌<◌, ◌≤◌, ◌+◌, ◌-◌, ◌*◌, ◌^◌, ℕ, [], length, map, IfOk, OnErr, slice_index};
+ghost use Rattle.std.specs.Prelude.{◌≡◌, ◌<◌, ◌≤◌, ◌+◌, ◌^◌, ℕ, [], length, map, IfOk, slice_index};
 ghost use Rattle.std.specs.List.{AllByRecursion};
 ghost use Rattle.mesh_gen.specs.Grid.{tiles, diameter};
 ghost use Rattle.mesh_gen.specs.Limits.{AreTiles, most_tiles};
 ghost use Rattle.mesh_gen.specs.TileSet.{set_of};
 ghost use Rattle.order_tracker.specs.Order.{order_from};
 ghost use Rattle.order_tracker.specs.Tracker.{left_of};
-ghost use Rattle.outside_io.specs.Streams.{stream, Rose, Appends, AppendsPart};
+ghost use Rattle.outside_io.specs.Streams.{stream, Writes};
 ghost use Rattle.doc_text.specs.Doc.{doc_of};
-ghost use Rattle.commands.specs.Entries.{entries_text, has_begun, rest_text};
+ghost use Rattle.commands.specs.Entries.{entries_text, has_begun, UsesUp};
 ghost use Rattle.commands.specs.Line.{numbers_line, order_text};
 ghost use Rattle.commands.specs.Outcome.{Wrote};
 
@@ -27,7 +27,8 @@ pub(crate) fn write_order<K: Sink>(
     document: &Document,
     sink: &mut K,
 ) -> Result<(), Stop>
-    ensures { Wrote (stream K.held K.faults sink.old sink.new) (order_text (doc_of document.now)) result }
+    ensures { Wrote (stream K.held K.faults sink.old sink.new)
+        (order_text (doc_of document.now)) result }
 {
     let mut latches = Latches::open(alloc, &document.mesh)?;
     let mut tracker = Tracker::open(alloc, &document.mesh)?;
@@ -44,14 +45,15 @@ fn write_line<K: Sink>(
     ticks: u8,
     posts: &[Tiles],
 ) -> Result<(), WriteFault>
-    requires grid { (tiles latches.old.grid ≡ tracker.old.tiles) × (tracker.old.tiles ≤ most_tiles) }
+    requires grid { (tiles latches.old.grid ≡ tracker.old.tiles)
+        × (tracker.old.tiles ≤ most_tiles) }
     requires ticks { diameter latches.old.grid ≤ ticks }
-    requires new { (tracker.old.windows ≡ []) × (tracker.old.number ≡ 0) × ((t : ℕ) → slice_index tracker.old.used t ≡ 0) × (0 < tracker.old.room) }
+    requires new { (tracker.old.windows ≡ []) × (tracker.old.number ≡ 0)
+        × ((t : ℕ) → slice_index tracker.old.used t ≡ 0) × (0 < tracker.old.room) }
     requires posts { AllByRecursion (AreTiles tracker.old.tiles) posts.now }
     requires count { length posts.now ≤ 4096 }
-    ensures ok { IfOk result (λ _. Appends (K.held sink.old) (K.held sink.new) (numbers_line (order_from tracker.old.tiles 0 (map set_of posts.now)))) }
-    ensures err { OnErr result (AppendsPart (K.held sink.old) (K.held sink.new) (numbers_line (order_from tracker.old.tiles 0 (map set_of posts.now)))) }
-    ensures fault { OnErr result (Rose (K.faults sink.old) (K.faults sink.new)) }
+    ensures { Writes (stream K.held K.faults sink.old sink.new)
+        (numbers_line (order_from tracker.old.tiles 0 (map set_of posts.now))) result }
 {
     let mut begun = false;
     for window in posts {
@@ -68,14 +70,10 @@ fn write_entries<K: Sink>(
     begun: bool,
 ) -> Result<bool, WriteFault>
     requires { (t : ℕ) → slice_index tracker.old.used t + length (left_of tracker.old) < 2 ^ 31 }
-    ensures ok { IfOk result (λ after. (after ≡ has_begun begun (left_of tracker.old))
-        × Appends (K.held sink.old) (K.held sink.new) (entries_text begun (left_of tracker.old))) }
-    ensures used_up { IfOk result (λ _. (tracker.new.windows ≡ []) × (tracker.new.tiles ≡ tracker.old.tiles) × (tracker.new.room ≡ tracker.old.room)
-        × (tracker.new.number ≡ tracker.old.number + length tracker.old.windows)
-        × ((t : ℕ) → slice_index tracker.new.used t ≤ slice_index tracker.old.used t + length (left_of tracker.old))) }
-    ensures err { OnErr result (AppendsPart (K.held sink.old) (K.held sink.new) (entries_text begun (left_of tracker.old))) }
-    ensures fault { OnErr result (Rose (K.faults sink.old) (K.faults sink.new)) }
-    ensures count { K.faults sink.old ≤ K.faults sink.new }
+    ensures written { Writes (stream K.held K.faults sink.old sink.new)
+        (entries_text begun (left_of tracker.old)) result }
+    ensures begun { IfOk result (λ after. after ≡ has_begun begun (left_of tracker.old)) }
+    ensures used_up { IfOk result (λ _. UsesUp tracker.old tracker.new) }
 {
     let mut begun = begun;
     while let Some((source, _)) = tracker.expected() {

@@ -10,7 +10,8 @@ use outside_io::Sink;
 
 /// Writes the canonical text, which is read back as the document that it shows.
 pub(crate) fn write_shown<K: Sink>(document: &Document, sink: &mut K) -> Result<(), Stop>
-    ensures { WroteSome (IsShown (doc_of document.now)) (stream K.held K.faults sink.old sink.new) result }
+    ensures { WroteSome (IsShown (doc_of document.now))
+        (stream K.held K.faults sink.old sink.new) result }
 {
     canonical_is_read_back(document);
     write_document(document, sink)?;

@@ -1,41 +1,34 @@
-use Rattle.std.proofs.Common.{[], ◌∷◌, true, drop, List, refl, subst, arith}
+use Rattle.std.proofs.Common.{List, true, refl, ap, arith}
 use Rattle.std.proofs.lemmas.List.{drop_all}
+use Rattle.outside_io.proofs.Writes.{WritesAllBut-nothing, WritesAllBut-more, Writes-failed, Writes-last}
 use Rattle.mesh_gen.specs.declared.request.Request.{Request}
 use Rattle.chip_model.specs.OrderedNetwork.{sources}
-use Rattle.commands.specs.Entries.{entry_text, rest_text}
-use Rattle.commands.specs.Deliveries.{label_text, tile_line}
-use Rattle.std.proofs.lemmas.Result.{on_err_weaker}
-use Rattle.outside_io.proofs.Writes.{Writes, Writes-nothing, Writes-more, Writes-cut, on_error}
-use Rattle.commands.proofs.DeliveryLines.{request_at, next_source}
+use Rattle.commands.specs.Entries.{rest_text}
+use Rattle.commands.specs.Deliveries.{tile_line}
+use Rattle.commands.proofs.DeliveryLines.{next_source}
 use Rattle.commands.proofs.deliver.write_line.Goals as goal
 
-pub returns-in_err-write_label-clause-err : goal.returns-in_err-write_label-clause-err
-returns-in_err-write_label-clause-err g c =
-    let whole = tile_line c.args.tile (sources c.args.delivered.now) in
-    on_error c.from_residual.result _ (Writes-cut _ _ _ whole (label_text c.args.tile) _ (Writes-nothing (g.K.Sink.held c.args.sink.now) whole) c.in_err-write_label.ensures.err)
+pub returns-in_err-write_label : goal.returns-in_err-write_label
+returns-in_err-write_label g c =
+    let list = sources c.args.delivered.now in
+    Writes-failed (rest_text true list) c.from_residual.result c.from_residual.ensures.0 (WritesAllBut-nothing (tile_line c.args.tile list)) refl c.in_err-write_label.ensures
 
-pub returns-in_err-write_number-clause-err : goal.returns-in_err-write_number-clause-err
-returns-in_err-write_number-clause-err g c =
-    let requests = c.args.delivered.now in
-    let whole = tile_line c.args.tile (sources requests) in
-    let next = next_source requests c.loop-request.request-index c.loop-request-test.true in
-    let written = subst (Writes (g.K.Sink.held c.args.sink.now) (g.K.Sink.held c.loop-request.sink) whole) next c.loop-request.invariant.written in
-    on_error c.from_residual-in_err-write_number.result _ (Writes-cut _ _ _ whole (entry_text true (request_at requests c.loop-request.request-index).source) _ written c.in_err-write_number.ensures.err)
+pub loop-request-init : goal.loop-request-init
+loop-request-init g c =
+    let list = sources c.args.delivered.now in
+    WritesAllBut-more {rest = rest_text true list} (WritesAllBut-nothing (tile_line c.args.tile list)) refl c.in_ok-write_label.ensures
+
+pub returns-in_err-write_number : goal.returns-in_err-write_number
+returns-in_err-write_number g c =
+    let next = next_source c.args.delivered.now c.loop-request.request-index c.loop-request-test.true in
+    Writes-failed _ c.from_residual-in_err-write_number.result c.from_residual-in_err-write_number.ensures.0 c.loop-request.invariant next c.in_err-write_number.ensures
 
 pub loop-request-preserved : goal.loop-request-preserved
 loop-request-preserved g c =
-    let requests = c.args.delivered.now in
-    let whole = tile_line c.args.tile (sources requests) in
-    let next = next_source requests c.loop-request.request-index c.loop-request-test.true in
-    let written = subst (Writes (g.K.Sink.held c.args.sink.now) (g.K.Sink.held c.loop-request.sink) whole) next c.loop-request.invariant.written in
-    record {
-      written = Writes-more _ _ _ whole (entry_text true (request_at requests c.loop-request.request-index).source) _ written c.in_ok-write_number.ensures.ok;
-      count = omega arith;
-    }
+    let next = next_source c.args.delivered.now c.loop-request.request-index c.loop-request-test.true in
+    WritesAllBut-more c.loop-request.invariant next c.in_ok-write_number.ensures
 
-pub returns-clause-err : goal.returns-clause-err
-returns-clause-err g c =
-    let whole = tile_line c.args.tile (sources c.args.delivered.now) in
+pub returns : goal.returns
+returns g c =
     let none = drop_all c.loop-request.request-index c.args.delivered.now (omega arith) in
-    let written = subst (λ (rest : List Request). Writes (g.K.Sink.held c.args.sink.now) (g.K.Sink.held c.loop-request.sink) whole (rest_text true (sources rest))) none c.loop-request.invariant.written in
-    on_err_weaker c.write_piece.result (λ cut. Writes-cut _ _ _ whole (10 ∷ []) [] written cut) c.write_piece.ensures.err
+    Writes-last c.write_piece.result c.loop-request.invariant (ap (λ (rest : List Request). rest_text true (sources rest)) none) c.write_piece.ensures

@@ -10,8 +10,8 @@ write_digits-digits-requires g c = (omega (arith, decimal_short c.from.result (o
 pub overflow_sub-start : goal.overflow_sub-start
 overflow_sub-start g c = omega (arith, decimal_short c.from.result (omega arith))
 
-pub returns-clause-ok : goal.returns-clause-ok
-returns-clause-ok g c =
+pub returns : goal.returns
+returns g c =
     let written = rw c.from.ensures at c.write_digits-digits.ensures.written in
     let some : 0 < c.write_digits-digits.result = omega (arith, decimal_short c.from.result (omega arith)) in
     let within : c.write_digits-digits.result ≤ 4 = omega arith in
@@ -20,16 +20,4 @@ returns-clause-ok g c =
       | then-begun w ↦ rw (w.start-is, w.if-begun.true) (space_before c.args.number c.write_digits-digits.result c.write_digits-digits.new.buf some within count written c.write_digits-digits.ensures.before)
       | else-begun w ↦ rw (w.start-is, w.if-begun.false) (digits_are c.args.number c.write_digits-digits.result c.write_digits-digits.new.buf written)
     ] in
-    rw (c.split_at.ensures.back ∙ text_is) at c.write_piece.ensures.ok
-
-pub returns-clause-err : goal.returns-clause-err
-returns-clause-err g c =
-    let written = rw c.from.ensures at c.write_digits-digits.ensures.written in
-    let some : 0 < c.write_digits-digits.result = omega (arith, decimal_short c.from.result (omega arith)) in
-    let within : c.write_digits-digits.result ≤ 4 = omega arith in
-    let count : length c.write_digits-digits.new.buf ≡ 4 = omega arith in
-    let text_is : drop c.if-begun.start c.write_digits-digits.new.buf ≡ entry_text c.args.begun c.args.number = elim c.if-begun.branch [
-      | then-begun w ↦ rw (w.start-is, w.if-begun.true) (space_before c.args.number c.write_digits-digits.result c.write_digits-digits.new.buf some within count written c.write_digits-digits.ensures.before)
-      | else-begun w ↦ rw (w.start-is, w.if-begun.false) (digits_are c.args.number c.write_digits-digits.result c.write_digits-digits.new.buf written)
-    ] in
-    rw (c.split_at.ensures.back ∙ text_is) at c.write_piece.ensures.err
+    rw (c.split_at.ensures.back ∙ text_is) at c.write_piece.ensures
