@@ -27,3 +27,6 @@ pub mod DataSends
 pub mod WaitingGets
 pub mod Carried
 pub mod DataKept
+pub mod NotedStates
+pub mod Reachable
+pub mod StateKept

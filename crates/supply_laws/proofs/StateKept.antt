@@ -1,13 +1,14 @@
 -- What every event keeps, joined: each part of the new state from its own law.
 use Rattle.std.proofs.Common.{◌≡◌, ℕ, refl, sym, ◌∙◌, ap, Some, List, length, set, slice_get}
 use Rattle.std.proofs.lemmas.List.{length-set}
+use Rattle.std.proofs.lemmas.List.FromFn.{length-map-range_with_len}
 use Rattle.report_text.specs.declared.event.Event.{Event}
 use Rattle.report_text.specs.declared.event.Event.TheVariants.{Tick, Core, Inject, Post, Take, Eject, Send, Hop, DataHop, DataEject}
 use Rattle.doc_text.specs.Doc.{Doc}
 use Rattle.chip_model.specs.Chip.{Chip, chip_of, tile_count}
 use Rattle.chip_model.specs.OrderedNetwork.{Interface}
-use Rattle.chip_model.specs.Units.{UnitState, Behaviour}
-use Rattle.chip_model.specs.ChipState.{ChipState}
+use Rattle.chip_model.specs.Units.{UnitState, Behaviour, opening_unit}
+use Rattle.chip_model.specs.ChipState.{ChipState, program_of, opening}
 use Rattle.chip_model.specs.Events.{step}
 use Rattle.chip_model.specs.BehaviourLaws.{KeepsLaws}
 use Rattle.chip_model.specs.ChipInvariant.{NetworkHolds, ProtocolHolds}
@@ -97,4 +98,4 @@ units_kept b d s new event e was = does_keep b (chip_of d) s new event (event_do
 
 -- at the opening there is one for each tile
 pub units_opened : (d : Doc) → length (opening d).units ≡ tile_count (chip_of d)
-units_opened d = length-map (upwards 0 (tile_count (chip_of d))) (λ tile. opening_unit (chip_of d) tile (program_of d tile) d.memory) ∙ upwards_length 0 (tile_count (chip_of d))
+units_opened d = length-map-range_with_len (λ tile. opening_unit (chip_of d) tile (program_of d tile) d.memory) 0 (tile_count (chip_of d))
