@@ -32,14 +32,14 @@ some_posts [] = false
 some_posts (window ∷ windows) = true
 
 abbrev pub mesh_header : Bool → Line
-mesh_header behind = ((([], (row_of Mesh).name), std_table), empty_line behind ++ table_line Mesh)
+mesh_header after = ((([], (row_of Mesh).name), std_table), empty_line after ++ table_line Mesh)
 
 abbrev pub sizes_lines : List (Key × ℕ) → List Line
 sizes_lines sizes = map (λ size. number_line size.0 size.1) sizes
 
 -- the lines of the mesh, and whether they stand after others
 abbrev pub mesh_lines : Bool → Doc → List Line
-mesh_lines behind doc = mesh_header behind ∷ (sizes_lines (sizes doc) ++ numbers_line Controllers doc.controllers ∷ [])
+mesh_lines after doc = mesh_header after ∷ (sizes_lines (sizes doc) ++ numbers_line Controllers doc.controllers ∷ [])
 
 abbrev pub memory_lines : List ℕ → List Line
 memory_lines [] = []
@@ -86,24 +86,24 @@ sizes_lines-text : (sizes : List (Key × ℕ)) → texts (sizes_lines sizes) ≡
 sizes_lines-text [] = refl
 sizes_lines-text (size ∷ sizes) = ap (λ (t : List ℕ). value_line size.0 (decimal size.1) ++ t) (sizes_lines-text sizes)
 
-mesh_of-text : (behind : Bool) (keys : List (Key × ℕ)) (tiles : List ℕ)
-    → texts (mesh_header behind ∷ (sizes_lines keys ++ numbers_line Controllers tiles ∷ [])) ≡ empty_line behind ++ (table_line Mesh ++ sizes_text keys ++ value_line Controllers (numbers_text tiles))
-mesh_of-text behind keys tiles =
+mesh_of-text : (after : Bool) (keys : List (Key × ℕ)) (tiles : List ℕ)
+    → texts (mesh_header after ∷ (sizes_lines keys ++ numbers_line Controllers tiles ∷ [])) ≡ empty_line after ++ (table_line Mesh ++ sizes_text keys ++ value_line Controllers (numbers_text tiles))
+mesh_of-text after keys tiles =
     let last = value_line Controllers (numbers_text tiles) in
     let whole : texts (sizes_lines keys ++ numbers_line Controllers tiles ∷ []) ≡ sizes_text keys ++ last =
     texts-append (sizes_lines keys) (numbers_line Controllers tiles ∷ []) ∙ rw (sizes_lines-text keys) (ap (λ (t : List ℕ). sizes_text keys ++ t) (append-nil last)) in
-    ap (λ (t : List ℕ). (empty_line behind ++ table_line Mesh) ++ t) whole ∙ four_pieces (empty_line behind) (table_line Mesh) (sizes_text keys) last
+    ap (λ (t : List ℕ). (empty_line after ++ table_line Mesh) ++ t) whole ∙ four_pieces (empty_line after) (table_line Mesh) (sizes_text keys) last
 
-mesh_lines-text : (behind : Bool) (doc : Doc) → texts (mesh_lines behind doc) ≡ empty_line behind ++ mesh_text doc
-mesh_lines-text behind doc = mesh_of-text behind (sizes doc) doc.controllers
+mesh_lines-text : (after : Bool) (doc : Doc) → texts (mesh_lines after doc) ≡ empty_line after ++ mesh_text doc
+mesh_lines-text after doc = mesh_of-text after (sizes doc) doc.controllers
 
-behind_posts : (line mesh : List ℕ) → (line ++ []) ++ (codes "\n" ++ mesh) ≡ (line ++ codes "\n") ++ mesh
-behind_posts line mesh = rw (append-nil line) (sym (append_assoc line (codes "\n") mesh))
+after_posts : (line mesh : List ℕ) → (line ++ []) ++ (codes "\n" ++ mesh) ≡ (line ++ codes "\n") ++ mesh
+after_posts line mesh = rw (append-nil line) (sym (append_assoc line (codes "\n") mesh))
 
 -- the empty line that ends the posts stands before the mesh
 posts_lines-text : (posts : List (List ℕ)) (mesh : List ℕ) → texts (posts_lines posts) ++ (empty_line (some_posts posts) ++ mesh) ≡ posts_text posts ++ mesh
 posts_lines-text [] mesh = refl
-posts_lines-text (window ∷ windows) mesh = behind_posts (value_line Posts (list_text (map numbers_text (window ∷ windows)))) mesh
+posts_lines-text (window ∷ windows) mesh = after_posts (value_line Posts (list_text (map numbers_text (window ∷ windows)))) mesh
 
 front-text : (doc : Doc) → texts (posts_lines doc.posts ++ mesh_lines (some_posts doc.posts) doc) ≡ posts_text doc.posts ++ mesh_text doc
 front-text doc =

@@ -3,7 +3,6 @@ use Rattle.std.proofs.Common.{◌≡◌, ℕ, zero, suc, ◌+◌, ◌*◌, ◌<�
 use Rattle.std.specs.List.{AllByRecursion, range_with_len}
 use Rattle.std.proofs.lemmas.Bool.{ne_eqb}
 use Rattle.std.proofs.lemmas.Bool.Decides.{nat_tests}
-use Rattle.std.proofs.lemmas.List.FromFn.{map-range_with_len_more}
 use Rattle.core_isa.specs.declared.instr.Instr.{Instr}
 use Rattle.core_isa.specs.Program.{IsProgram}
 use Rattle.toml.specs.Data.{Members}
@@ -12,9 +11,8 @@ use Rattle.doc_text.specs.Doc.{Doc}
 use Rattle.doc_text.proofs.ShownWords.{shown_words-padded}
 use Rattle.mesh_doc.specs.Tables.{Part, cores_of}
 use Rattle.mesh_doc.specs.Faults.{tiles_described, core_tile}
-use Rattle.mesh_doc.specs.Reading.{image, below, program_in, program_of_tile, document}
+use Rattle.mesh_doc.specs.Reading.{image, program_in, program_of_tile, document}
 use Rattle.mesh_doc.specs.Laws.{KeepsLimits}
-use Rattle.mesh_doc.proofs.Placing.{mapped_more}
 use Rattle.canonical_form.specs.CanonicalDoc.{IsCanonicalDoc}
 use Rattle.canonical_form.proofs.ListValues.{windows-lists}
 use Rattle.canonical_form.proofs.CoreParts.{part_of_core, placed_cores}
@@ -63,17 +61,10 @@ programs_placed count at t ((instr ∷ instrs) ∷ programs) inside are =
       programs_placed count (at + 1) (t + 1) programs (omega arith) are.1,
     ) refl
 
-mapped_below : {A : Type 0} (f : ℕ → A) (n : ℕ) → map f (below n) ≡ map f (range_with_len 0 n)
-mapped_below f zero = refl
-mapped_below {A} f (suc n) =
-    let next : n + 1 ≡ suc n = omega arith in
-    mapped_more f n ∙ ap (λ (front : List A). front ++ f n ∷ []) (mapped_below f n) ∙ sym (map-range_with_len_more f 0 n n (omega arith)) ∙ ap (λ (k : ℕ). map f (range_with_len 0 k)) next
-
-pub programs_said : (doc : Doc) (top : Members) → IsWhole doc top → IsCanonicalDoc doc → map (program_of_tile (tiles_described top) (cores_of top)) (below (tiles_described top)) ≡ doc.programs
+pub programs_said : (doc : Doc) (top : Members) → IsWhole doc top → IsCanonicalDoc doc → map (program_of_tile (tiles_described top) (cores_of top)) (range_with_len 0 (tiles_described top)) ≡ doc.programs
 programs_said doc top said is =
     let count : tiles_described top ≡ length doc.programs = count_said doc top said.mesh ∙ sym is.keeps.programs in
-    rw (said.cores, count) (mapped_below (program_of_tile (length doc.programs) (placed_cores 0 0 doc.programs)) (length doc.programs)
-    ∙ programs_placed (length doc.programs) 0 0 doc.programs (omega arith) is.programs)
+    rw (said.cores, count) (programs_placed (length doc.programs) 0 0 doc.programs (omega arith) is.programs)
 
 -- ---- the other fields
 

@@ -25,7 +25,7 @@ abbrev pub empty_line : Bool → List ℕ
 empty_line true = codes "\n"
 empty_line false = []
 
-pub IsLine-mesh : (behind : Bool) → IsLine (([], (row_of Mesh).name), std_table) (empty_line behind ++ table_line Mesh)
+pub IsLine-mesh : (after : Bool) → IsLine (([], (row_of Mesh).name), std_table) (empty_line after ++ table_line Mesh)
 unfolding key_text
 IsLine-mesh true = printed_header true (row_of Mesh).name (codes "\n[mesh]\n") std_table refl (omega arith) refl
 IsLine-mesh false = printed_header false (row_of Mesh).name (codes "[mesh]\n") std_table refl (omega arith) refl

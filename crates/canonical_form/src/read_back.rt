@@ -16,7 +16,8 @@ use doc_text::Document;
 /// At run time it does nothing.
 pub fn canonical_doc_is_read()
     ensures read { (doc : Doc) → IsCanonicalDoc doc → reading (canonical doc) ≡ Ok doc }
-    ensures apart { (a b : Doc) → IsCanonicalDoc a → IsCanonicalDoc b → canonical a ≡ canonical b → a ≡ b }
+    ensures apart { (a b : Doc) → IsCanonicalDoc a → IsCanonicalDoc b → canonical a ≡ canonical b
+        → a ≡ b }
 {}
 
 // Each program is one that a core may be given.

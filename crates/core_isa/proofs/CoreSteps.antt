@@ -51,7 +51,7 @@ advanced_stuck program m zero core last reached stuck less = absurd (omega arith
 advanced_stuck program m (suc n) core last reached stuck less =
     elim (cases_lt m n) [
       | inl before ↦ ap (option_and_then (stepped program)) (advanced_stuck program m n core last reached stuck before)
-      | inr behind ↦ let same : n ≡ m = omega arith in ap (λ (k : ℕ). option_and_then (stepped program) (advanced program k core)) same ∙ (ap (option_and_then (stepped program)) reached ∙ stuck)
+      | inr after ↦ let same : n ≡ m = omega arith in ap (λ (k : ℕ). option_and_then (stepped program) (advanced program k core)) same ∙ (ap (option_and_then (stepped program)) reached ∙ stuck)
     ]
 
 none_more : (program : List Instr) (found : Option CoreState) → found ≡ option_and_then (advanced program 0) found

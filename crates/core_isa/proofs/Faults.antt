@@ -17,14 +17,14 @@ first_failing-append [] second = refl
 first_failing-append (check ∷ rest) second = pick_or check.fails check.kind _ (first_failing rest) _ (first_failing-append rest second)
 
 -- where the first checks hold, the fault is that of the second
-pub first_failing-behind : (first second : List Check) → first_failing first ≡ None → first_failing (first ++ second) ≡ first_failing second
-first_failing-behind first second e = first_failing-append first second ∙ ap (λ (o : Option AsmKind). option_or o (first_failing second)) e
+pub first_failing-after : (first second : List Check) → first_failing first ≡ None → first_failing (first ++ second) ≡ first_failing second
+first_failing-after first second e = first_failing-append first second ∙ ap (λ (o : Option AsmKind). option_or o (first_failing second)) e
 
 -- a line whose label is good has what its words have
 pub line_from_words : (whole before : Scope) (line : Line) (r : Result (Option Instr) AsmKind) → first_failing (label_checks before line.label) ≡ None → ReadsWords whole before line.words r → ReadsLine whole before line r
 unfolding fault_of instr_of
-line_from_words whole before line (Ok i) good h = (first_failing-behind (label_checks before line.label) (instruction_checks whole before line.words) good ∙ h.0, h.1, h.2, h.3)
-line_from_words whole before line (Err kind) good h = first_failing-behind (label_checks before line.label) (instruction_checks whole before line.words) good ∙ h
+line_from_words whole before line (Ok i) good h = (first_failing-after (label_checks before line.label) (instruction_checks whole before line.words) good ∙ h.0, h.1, h.2, h.3)
+line_from_words whole before line (Err kind) good h = first_failing-after (label_checks before line.label) (instruction_checks whole before line.words) good ∙ h
 
 -- a fault of the label is the line's
 pub fault_from_label : (whole before : Scope) (line : Line) (kind : AsmKind) → first_failing (label_checks before line.label) ≡ Some kind → fault_of whole before line ≡ Some kind

@@ -1,4 +1,5 @@
 pub mod Scanning
+pub mod Elements
 pub mod Digits
 pub mod Places
 pub mod Scopes

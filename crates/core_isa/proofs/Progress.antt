@@ -14,6 +14,7 @@ use Rattle.core_isa.specs.Assembly.{fault_of, fault_at, fault_or, first_fault, i
 use Rattle.core_isa.specs.LabelsSeen.{with_line}
 use Rattle.core_isa.specs.Reading.{IsExact, IsAssembled}
 use Rattle.core_isa.proofs.Scopes.{scope_of-push}
+use Rattle.core_isa.proofs.Elements.{AllByRecursion-append}
 
 -- of all lines, those that are done have no fault and these instructions
 pub record Progress (whole : Scope) (done rest all : List Line) (before : Scope) (instrs : List Instr) : Type 0 where
@@ -35,10 +36,6 @@ pub stops : (whole : Scope) (done : List Line) (line : Line) (rest all : List Li
     → first_fault whole [] all ≡ Some (fault_at (length done + 1) kind)
 stops whole done line rest all before instrs kind p e =
     sym p.left ∙ first_fault-cons whole done line rest ∙ ap (λ (f : Option AsmKind). fault_or f (length done + 1) (first_fault whole (done ++ line ∷ []) rest)) (ap (λ (s : Scope). fault_of whole s line) (sym p.known) ∙ e)
-
-AllByRecursion-append : (P : Instr → Type 0) (xs ys : List Instr) → AllByRecursion P xs → AllByRecursion P ys → AllByRecursion P (xs ++ ys)
-AllByRecursion-append P [] ys a b = b
-AllByRecursion-append P (x ∷ xs) ys a b = (a.0, AllByRecursion-append P xs ys a.1 b)
 
 one_more : (whole : Scope) (line : Line) (i : Option Instr) → i ≡ instr_of whole line → option_to_list i ≡ filter_map (instr_of whole) (line ∷ [])
 one_more whole line None e = rw (← e) refl

@@ -12,7 +12,7 @@ found_at p xs = cond (ltb (position_or_len p xs) (length xs)) (Some (position_or
 pub front_is : (p : ℕ → Bool) (xs : List ℕ) (i : ℕ) → found_at p xs ≡ Some i → take i xs ≡ before_first p xs
 front_is p xs i e = ap (λ (n : ℕ). take n xs) (sym (cond_some _ _ _ e).1)
 
-none_is_false : (b : Bool) (n : ℕ) → cond b (Some n) None ≡ None → b ≡ false
+pub none_is_false : (b : Bool) (n : ℕ) → cond b (Some n) None ≡ None → b ≡ false
 none_is_false true n e = absurd cc
 none_is_false false n e = refl
 

@@ -17,9 +17,9 @@ one_before : (more : Bool) (n : ℕ) → cond more 1 0 + n ≡ counted more n
 one_before true n = omega arith
 one_before false n = omega arith
 
-one_behind : (more : Bool) (n : ℕ) → n + cond more 1 0 ≡ counted more n
-one_behind true n = refl
-one_behind false n = omega arith
+counted-one : (more : Bool) (n : ℕ) → n + cond more 1 0 ≡ counted more n
+counted-one true n = refl
+counted-one false n = omega arith
 
 counted-add : (more : Bool) (place n : ℕ) → counted more place + n ≡ place + counted more n
 counted-add true place n = omega arith
@@ -29,11 +29,11 @@ pub instruction_count-cons : (line : Line) (lines : List Line) → instruction_c
 instruction_count-cons line lines = sum_by-cons (λ l. cond (has_instruction l) 1 0) line lines ∙ one_before (has_instruction line) (instruction_count lines)
 
 pub instruction_count-push : (lines : List Line) (line : Line) → instruction_count (lines ++ line ∷ []) ≡ counted (has_instruction line) (instruction_count lines)
-instruction_count-push lines line = sum_by_push (λ l. cond (has_instruction l) 1 0) lines line ∙ one_behind (has_instruction line) (instruction_count lines)
+instruction_count-push lines line = sum_by_push (λ l. cond (has_instruction l) 1 0) lines line ∙ counted-one (has_instruction line) (instruction_count lines)
 
 -- the place after the first line, and the instructions of the rest
-behind_first : (place : ℕ) (first : Line) (rest : List Line) → counted (has_instruction first) place + instruction_count rest ≡ place + instruction_count (first ∷ rest)
-behind_first place first rest = counted-add (has_instruction first) place (instruction_count rest) ∙ ap (λ (n : ℕ). place + n) (sym (instruction_count-cons first rest))
+after_the_first : (place : ℕ) (first : Line) (rest : List Line) → counted (has_instruction first) place + instruction_count rest ≡ place + instruction_count (first ∷ rest)
+after_the_first place first rest = counted-add (has_instruction first) place (instruction_count rest) ∙ ap (λ (n : ℕ). place + n) (sym (instruction_count-cons first rest))
 
 pick_or : (found : Bool) (place : ℕ) (o p : Option ℕ) (q : Option ℕ) → o ≡ option_or p q → cond found (Some place) o ≡ option_or (cond found (Some place) p) q
 pick_or true place o p q e = refl
@@ -44,7 +44,7 @@ place_from-push : (place : ℕ) (name : List ℕ) (lines : List Line) (line : Li
 place_from-push place name [] line = ap (λ (n : ℕ). cond (is_borne name line.label) (Some n) None) (omega arith)
 place_from-push place name (first ∷ rest) line =
     pick_or (is_borne name first.label) place _ (place_from (counted (has_instruction first) place) name rest) _
-    (place_from-push (counted (has_instruction first) place) name rest line ∙ ap (λ (n : ℕ). option_or (place_from (counted (has_instruction first) place) name rest) (cond (is_borne name line.label) (Some n) None)) (behind_first place first rest))
+    (place_from-push (counted (has_instruction first) place) name rest line ∙ ap (λ (n : ℕ). option_or (place_from (counted (has_instruction first) place) name rest) (cond (is_borne name line.label) (Some n) None)) (after_the_first place first rest))
 
 abbrev scope_with : (List ℕ → Option ℕ) → ℕ → Scope
 scope_with places count = record { places = places; count = count }
@@ -64,7 +64,7 @@ placed_within place name [] found e = absurd cc
 placed_within place name (first ∷ rest) found e =
     let go : (here : Bool) → cond here (Some place) (place_from (counted (has_instruction first) place) name rest) ≡ Some found → found ≤ place + instruction_count (first ∷ rest) = λ here. elim here as (λ b. cond b (Some place) (place_from (counted (has_instruction first) place) name rest) ≡ Some found → found ≤ place + instruction_count (first ∷ rest)) [
       | true ↦ λ h. let same = some_is place found h in omega (arith, same)
-      | false ↦ λ h. let below = placed_within (counted (has_instruction first) place) name rest found h in let sum = behind_first place first rest in omega (arith, below, sum)
+      | false ↦ λ h. let below = placed_within (counted (has_instruction first) place) name rest found h in let sum = after_the_first place first rest in omega (arith, below, sum)
     ] in
     go (is_borne name first.label) e
 

@@ -7,6 +7,7 @@ use Rattle.std.proofs.lemmas.List.{append-nil}
 use Rattle.std.proofs.lemmas.List.Elements.{All-from_recursion}
 use Rattle.std.proofs.lemmas.List.Splits.{slice_split_none, slice_split_at}
 use Rattle.core_isa.specs.Lines.{Line, is_white, is_comment_sign, is_line_feed, is_filled, words_of, is_label, source_line, line_with}
+use Rattle.core_isa.proofs.Elements.{AllByRecursion-append, AllByRecursion-map}
 
 -- bytes from 36 on are those of words here: white space, line feeds and `#` are below
 pub record IsWord (word : List ℕ) : Type 0 where
@@ -15,14 +16,6 @@ pub record IsWord (word : List ℕ) : Type 0 where
 
 abbrev pub spaced : List ℕ → List (List ℕ) → List ℕ
 spaced word words = word ++ flat_map (λ next. 32 ∷ next) words
-
-AllByRecursion-append : (P : ℕ → Type 0) (xs ys : List ℕ) → AllByRecursion P xs → AllByRecursion P ys → AllByRecursion P (xs ++ ys)
-AllByRecursion-append P [] ys a b = b
-AllByRecursion-append P (x ∷ xs) ys a b = (a.0, AllByRecursion-append P xs ys a.1 b)
-
-AllByRecursion-map : (P Q : ℕ → Type 0) → ((x : ℕ) → P x → Q x) → (xs : List ℕ) → AllByRecursion P xs → AllByRecursion Q xs
-AllByRecursion-map P Q f [] a = tt
-AllByRecursion-map P Q f (x ∷ xs) a = (f x a.0, AllByRecursion-map P Q f xs a.1)
 
 is_white-plain : (byte : ℕ) → 36 ≤ byte → is_white byte ≡ false
 unfolding is_white

@@ -73,8 +73,8 @@ fault_at line kind = record { line = line; kind = kind }
 
 -- the fault of a line, or else the first of the lines after it
 abbrev pub fault_or : Option AsmKind → ℕ → Option AsmFault → Option AsmFault
-fault_or (Some kind) line behind = Some (fault_at line kind)
-fault_or None line behind = behind
+fault_or (Some kind) line after = Some (fault_at line kind)
+fault_or None line after = after
 
 -- the fault of the lowest bad line among the rest, with the lines before it
 unfoldable pub first_fault : Scope → List Line → List Line → Option AsmFault

@@ -41,9 +41,9 @@ value_line-list key values = simp append_assoc
 lists : (before list : List ℕ) (rest : List (List ℕ)) → values_after (before ++ codes "[") (codes "],[") (map joined (list ∷ rest)) ++ codes "]" ≡ before ++ join_with_byte 44 (map numbers_text (list ∷ rest))
 lists before list [] = simp (append_assoc, append-nil)
 lists before list (next ∷ rest) =
-    let behind : values_after (codes "],[") (codes "],[") (map joined (next ∷ rest)) ++ codes "]" ≡ codes "]," ++ join_with_byte 44 (map numbers_text (next ∷ rest)) = lists (codes "],") next rest in
+    let after : values_after (codes "],[") (codes "],[") (map joined (next ∷ rest)) ++ codes "]" ≡ codes "]," ++ join_with_byte 44 (map numbers_text (next ∷ rest)) = lists (codes "],") next rest in
     append_assoc ((before ++ codes "[") ++ joined list) (values_after (codes "],[") (codes "],[") (map joined (next ∷ rest))) (codes "]")
-    ∙ ap (λ (t : List ℕ). ((before ++ codes "[") ++ joined list) ++ t) behind
+    ∙ ap (λ (t : List ℕ). ((before ++ codes "[") ++ joined list) ++ t) after
     ∙ simp append_assoc
 
 -- the line of a list of lists: what begins it, the lists with what divides them, and what ends it

@@ -42,16 +42,16 @@ no_last : (front : List ℕ) (last : ℕ) → [] ≡ front ++ last ∷ [] → �
 no_last [] last is = cc
 no_last (word ∷ front) last is = cc
 
-ended_behind : (word next : ℕ) (rest : List ℕ) → ((front : List ℕ) (last : ℕ) → next ∷ rest ≡ front ++ last ∷ [] → last ≢ 0)
+ended_after : (word next : ℕ) (rest : List ℕ) → ((front : List ℕ) (last : ℕ) → next ∷ rest ≡ front ++ last ∷ [] → last ≢ 0)
     → (front : List ℕ) (last : ℕ) → word ∷ next ∷ rest ≡ front ++ last ∷ [] → last ≢ 0
-ended_behind word next rest ended [] last is = cc
-ended_behind word next rest ended (first ∷ front) last is = ended front last cc
+ended_after word next rest ended [] last is = cc
+ended_after word next rest ended (first ∷ front) last is = ended front last cc
 
 ended_with : (word : ℕ) (shown : List ℕ) → ((front : List ℕ) (last : ℕ) → shown ≡ front ++ last ∷ [] → last ≢ 0)
     → (front : List ℕ) (last : ℕ) → shown_with word shown ≡ front ++ last ∷ [] → last ≢ 0
 ended_with zero [] ended front last is = absurd (no_last front last is)
-ended_with zero (next ∷ shown) ended front last is = ended_behind 0 next shown ended front last is
-ended_with (suc word) (next ∷ shown) ended front last is = ended_behind (suc word) next shown ended front last is
+ended_with zero (next ∷ shown) ended front last is = ended_after 0 next shown ended front last is
+ended_with (suc word) (next ∷ shown) ended front last is = ended_after (suc word) next shown ended front last is
 ended_with (suc word) [] ended [] last is = λ none. cc
 ended_with (suc word) [] ended (first ∷ front) last is = absurd (no_last front last cc)
 

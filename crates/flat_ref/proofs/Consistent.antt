@@ -9,7 +9,8 @@ use Rattle.core_isa.specs.declared.instr.Instr.{Instr}
 use Rattle.core_isa.specs.Core.{CoreState, new_core}
 use Rattle.report_text.specs.declared.access.Access.{Access}
 use Rattle.flat_ref.specs.declared.flat.Flat.{Flat}
-use Rattle.flat_ref.specs.Taking.{◌>>=◌, core_at, taken_all}
+use Rattle.mesh_gen.specs.Partial.{◌>>=◌}
+use Rattle.flat_ref.specs.Taking.{core_at, taken_all}
 use Rattle.flat_ref.specs.Execution.{start, cores_at, executed_from, IsExecution}
 use Rattle.flat_ref.specs.Consistency.{accesses_of, made_all, IsConsistent}
 use Rattle.flat_ref.proofs.Ends.{executed_from-taken}

@@ -5,7 +5,8 @@ use Rattle.core_isa.specs.declared.instr.Instr.{Instr}
 use Rattle.core_isa.specs.Core.{CoreState}
 use Rattle.report_text.specs.declared.access.Access.{Access}
 use Rattle.flat_ref.specs.declared.flat.Flat.{Flat}
-use Rattle.flat_ref.specs.Taking.{◌>>=◌, taken_all, StopsAt}
+use Rattle.mesh_gen.specs.Partial.{◌>>=◌}
+use Rattle.flat_ref.specs.Taking.{taken_all, StopsAt}
 use Rattle.flat_ref.specs.Execution.{cores_at, executed_from, IsFirstBadAccess}
 use Rattle.flat_ref.proofs.Runs.{taken_all_stuck}
 

@@ -6,7 +6,8 @@ use Rattle.core_isa.specs.declared.instr.Instr.{Instr}
 use Rattle.core_isa.specs.Core.{CoreState}
 use Rattle.report_text.specs.declared.access.Access.{Access}
 use Rattle.flat_ref.specs.declared.flat.Flat.{Flat}
-use Rattle.flat_ref.specs.Taking.{◌>>=◌, core_at, taken_all}
+use Rattle.mesh_gen.specs.Partial.{◌>>=◌}
+use Rattle.flat_ref.specs.Taking.{core_at, taken_all}
 use Rattle.flat_ref.specs.Execution.{start, cores_at, executed_from, executed, flat_memory}
 use Rattle.flat_ref.proofs.Takings.{Counted, gets_to}
 

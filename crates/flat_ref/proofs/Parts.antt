@@ -14,7 +14,8 @@ use Rattle.report_text.specs.declared.access.AccessKind.{AccessKind}
 use Rattle.report_text.specs.declared.access.AccessKind.TheVariants as kind
 use Rattle.report_text.specs.Accesses.{reads, writes, read_by}
 use Rattle.flat_ref.specs.declared.flat.Flat.{Flat}
-use Rattle.flat_ref.specs.Taking.{◌>>=◌, core_at, made, made_by, reads_right, memory_after, taken, taken_all}
+use Rattle.mesh_gen.specs.Partial.{◌>>=◌}
+use Rattle.flat_ref.specs.Taking.{core_at, made, made_by, reads_right, memory_after, taken, taken_all}
 use Rattle.flat_ref.specs.Order.{word_by}
 use Rattle.flat_ref.specs.Consistency.{accesses_of, made_all}
 use Rattle.flat_ref.proofs.Runs.{taken_all_none, taken_all_cons}
@@ -162,8 +163,8 @@ parts words programs old new (a ∷ rest) is_words e =
     option_and_then_some (λ next. taken_all programs next rest) (taken programs old a) new (sym (taken_all_cons programs old a rest) ∙ e) (λ next one others.
     let s = sides programs old next a one in
     let long = length_served old.memory next.memory a s.memory_side in
-    let behind = parts words programs next new rest (is_words ∙ sym long) others in
+    let later = parts words programs next new rest (is_words ∙ sym long) others in
     record {
-      tiles = (slice_get_within programs a.tile s.program s.its_program, behind.tiles);
-      cores = first_part words programs old next new a rest is_words s behind.cores;
+      tiles = (slice_get_within programs a.tile s.program s.its_program, later.tiles);
+      cores = first_part words programs old next new a rest is_words s later.cores;
     })

@@ -74,7 +74,7 @@ first_then : Counted → Received → (programs : List (List Instr)) (flat after
 first_then counted received programs flat after between rest a b e same =
     option_and_then_some (λ next. taken_all programs next (between ++ b ∷ rest)) (taken programs flat a) after (sym (taken_all_cons programs flat a (between ++ b ∷ rest)) ∙ e) (λ next one others.
     option_and_then_some (λ mid. taken_all programs mid (b ∷ rest)) (taken_all programs next between) after (sym (taken_all-append programs next between (b ∷ rest)) ∙ others) (λ mid earlier later.
-    option_and_then_some (λ last. taken_all programs last rest) (taken programs mid b) after (sym (taken_all_cons programs mid b rest) ∙ later) (λ last its_own behind.
+    option_and_then_some (λ last. taken_all programs last rest) (taken programs mid b) after (sym (taken_all_cons programs mid b rest) ∙ later) (λ last its_own rest_done.
     let done = done_by_all counted received programs next mid between a.tile (a.number + 1) (done_after counted received programs flat next a one) earlier in
     let least = number_of_next counted received programs mid last b (a.number + 1) (subst (λ (t : ℕ). HasDone mid t (a.number + 1)) same done) its_own in
     omega (arith, least))))

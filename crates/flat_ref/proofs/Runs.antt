@@ -7,7 +7,8 @@ use Rattle.std.proofs.lemmas.List.Folds.{fold_stays}
 use Rattle.core_isa.specs.declared.instr.Instr.{Instr}
 use Rattle.report_text.specs.declared.access.Access.{Access}
 use Rattle.flat_ref.specs.declared.flat.Flat.{Flat}
-use Rattle.flat_ref.specs.Taking.{◌>>=◌, taken, taken_all}
+use Rattle.mesh_gen.specs.Partial.{◌>>=◌}
+use Rattle.flat_ref.specs.Taking.{taken, taken_all}
 
 abbrev then_taken : List (List Instr) → Option Flat → Access → Option Flat
 then_taken programs found a = found >>= λ before. taken programs before a

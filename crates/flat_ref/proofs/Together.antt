@@ -7,7 +7,8 @@ use Rattle.core_isa.specs.declared.instr.Instr.{Instr}
 use Rattle.core_isa.specs.Core.{CoreState}
 use Rattle.report_text.specs.declared.access.Access.{Access}
 use Rattle.flat_ref.specs.declared.flat.Flat.{Flat}
-use Rattle.flat_ref.specs.Taking.{◌>>=◌, flat_of, made_by, taken_all}
+use Rattle.mesh_gen.specs.Partial.{◌>>=◌}
+use Rattle.flat_ref.specs.Taking.{flat_of, made_by, taken_all}
 use Rattle.flat_ref.specs.Order.{last_written}
 use Rattle.flat_ref.specs.Consistency.{accesses_of, made_all, ReadsLast}
 use Rattle.flat_ref.proofs.Runs.{taken_all_none, taken_all_cons}
@@ -60,8 +61,8 @@ cores_after words programs old new a rest f others t program core is_program is_
     ]
 
 reads_after : (memory words : List ℕ) (a : Access) (rest : List Access) → ((address : ℕ) → get_or words address 0 ≡ last_written address (get_or memory address 0) (a ∷ [])) → ReadsLast memory (a ∷ rest) → ReadsLast words rest
-reads_after memory words a rest word reads before behind b e is_read =
-    reads (a ∷ before) behind b (ap (λ (xs : List Access). a ∷ xs) e) is_read ∙ ap (λ (w : ℕ). last_written b.address w before) (sym (word b.address))
+reads_after memory words a rest word reads before later b e is_read =
+    reads (a ∷ before) later b (ap (λ (xs : List Access). a ∷ xs) e) is_read ∙ ap (λ (w : ℕ). last_written b.address w before) (sym (word b.address))
 
 -- accesses that each core makes alone, and that read what was written last, are taken together
 pub together : (words : ℕ) (programs : List (List Instr)) (old : Flat) (accesses : List Access) → words ≡ length old.memory → 0 < words → length old.cores ≡ length programs → AllByRecursion (λ a. a.tile < length programs) accesses → RunsAlone words programs old.cores accesses → ReadsLast old.memory accesses → Together words programs old accesses
@@ -77,10 +78,10 @@ together words programs old (a ∷ rest) is_words some many tiles alone reads =
     let s = serves_by old.memory a (λ is_read. reads [] rest a refl is_read) in
     let next : Flat = flat_of (set old.cores a.tile f.after) s.words in
     let one = taken_by_sides programs old a f.program f.core f.after s.words f.its_program f.its_core (ap (λ (w : ℕ). made_by w f.program f.core a) (sym is_words) ∙ f.makes) s.served_is in
-    let behind = together words programs next rest (is_words ∙ sym s.as_long) some (length-set old.cores a.tile f.after ∙ many) tiles.1 (alone_after words programs old a rest f alone) (reads_after old.memory s.words a rest (λ address. s.word address (omega (arith, within))) reads) in
+    let later = together words programs next rest (is_words ∙ sym s.as_long) some (length-set old.cores a.tile f.after ∙ many) tiles.1 (alone_after words programs old a rest f alone) (reads_after old.memory s.words a rest (λ address. s.word address (omega (arith, within))) reads) in
     record {
-      new = behind.new;
-      taken = taken_all_cons programs old a rest ∙ (ap (λ (o : Option Flat). o >>= λ flat. taken_all programs flat rest) one ∙ behind.taken);
-      cores = cores_after words programs old behind.new.cores a rest f behind.cores;
-      many = behind.many ∙ length-set old.cores a.tile f.after;
+      new = later.new;
+      taken = taken_all_cons programs old a rest ∙ (ap (λ (o : Option Flat). o >>= λ flat. taken_all programs flat rest) one ∙ later.taken);
+      cores = cores_after words programs old later.new.cores a rest f later.cores;
+      many = later.many ∙ length-set old.cores a.tile f.after;
     }

@@ -6,7 +6,8 @@ use Rattle.core_isa.specs.declared.instr.Instr.{Instr}
 use Rattle.core_isa.specs.Core.{CoreState, new_core}
 use Rattle.report_text.specs.declared.access.Access.{Access}
 use Rattle.report_text.specs.Accesses.{reads, read_by}
-use Rattle.flat_ref.specs.Taking.{◌>>=◌, core_at, made_by}
+use Rattle.mesh_gen.specs.Partial.{◌>>=◌}
+use Rattle.flat_ref.specs.Taking.{core_at, made_by}
 use Rattle.flat_ref.specs.Order.{last_written}
 
 -- the accesses of a tile, in their order

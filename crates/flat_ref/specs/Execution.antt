@@ -9,7 +9,8 @@ use Rattle.report_text.specs.declared.access.Access.{Access}
 use Rattle.flat_ref.specs.declared.flat.Flat.{Flat}
 use Rattle.flat_ref.specs.declared.ending.CheckEnd.{CheckEnd}
 use Rattle.flat_ref.specs.declared.ending.CheckEnd.TheVariants.{FirstBad, NoMemory}
-use Rattle.flat_ref.specs.Taking.{◌>>=◌, flat_of, core_at, taken_all}
+use Rattle.mesh_gen.specs.Partial.{◌>>=◌}
+use Rattle.flat_ref.specs.Taking.{flat_of, core_at, taken_all}
 
 -- a new core for each of so many programs, and this memory
 abbrev pub start : List (List Instr) → List ℕ → Flat

@@ -2,6 +2,7 @@
 -- A new kind of access has a clause in `made`.
 use Rattle.std.specs.Prelude.{◌≡◌, ℕ, Bool, ◌+◌, ◌<◌, ◌-◌, ◌%◌, ◌==◌, ◌&&◌, ◌||◌, not, nat_le, if◌then◌else◌, List, Option, Some, None, option_and_then, IsSome, length, take, slice_get, slice_index, slice_set}
 use Rattle.std.specs.List.{fold}
+use Rattle.mesh_gen.specs.Partial.{◌>>=◌}
 use Rattle.core_isa.specs.declared.instr.Instr.{Instr}
 use Rattle.core_isa.specs.declared.next.Next.{Next}
 use Rattle.core_isa.specs.declared.next.Next.TheVariants as next
@@ -11,10 +12,6 @@ use Rattle.report_text.specs.declared.access.AccessKind.{AccessKind}
 use Rattle.report_text.specs.declared.access.AccessKind.TheVariants as kind
 use Rattle.report_text.specs.Accesses.{reads, writes, word_after, read_by}
 use Rattle.flat_ref.specs.declared.flat.Flat.{Flat}
-
-infixl 10 ◌>>=◌
-abbrev pub ◌>>=◌ : {A B : Type 0} → Option A → (A → Option B) → Option B
-o >>= f = option_and_then f o
 
 -- the flat state of these cores and this memory
 abbrev pub flat_of : List CoreState → List ℕ → Flat

@@ -61,7 +61,8 @@ fn first_bad(
     requires words { 0 < length memory.old }
     requires limit { length memory.old ≤ 1024 }
     ensures { MatchOption result
-        (executed_from programs.now (flat_of cores.old memory.old) accesses.now steps.now ≡ Some (flat_of cores.new memory.new))
+        (executed_from programs.now (flat_of cores.old memory.old) accesses.now steps.now
+        ≡ Some (flat_of cores.new memory.new))
         (IsFirstBadAccess programs.now (flat_of cores.old memory.old) accesses.now steps.now) }
 {
     if let Some(at) = take_all(programs, cores, memory, accesses) {
@@ -84,7 +85,8 @@ fn take_all(
     requires words { 0 < length memory.old }
     requires limit { length memory.old ≤ 1024 }
     ensures { MatchOption result
-        (taken_all programs.now (flat_of cores.old memory.old) accesses.now ≡ Some (flat_of cores.new memory.new))
+        (taken_all programs.now (flat_of cores.old memory.old) accesses.now
+        ≡ Some (flat_of cores.new memory.new))
         (StopsAt programs.now (flat_of cores.old memory.old) accesses.now) }
 {
     for (at, access) in accesses.iter().enumerate() {

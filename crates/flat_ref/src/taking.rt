@@ -17,7 +17,8 @@ pub(crate) fn take(
     requires words { 0 < length memory.old }
     requires limit { length memory.old ≤ 1024 }
     ensures { MatchBool result
-        (taken programs.now (flat_of cores.old memory.old) access.now ≡ Some (flat_of cores.new memory.new))
+        (taken programs.now (flat_of cores.old memory.old) access.now
+        ≡ Some (flat_of cores.new memory.new))
         (taken programs.now (flat_of cores.old memory.old) access.now ≡ None) }
 {
     let tile = usize::from(access.tile);
@@ -65,10 +66,12 @@ fn perform(program: &Program, core: &mut Core, memory: &mut [u32], access: &Acce
     requires words { 0 < length memory.old }
     requires limit { length memory.old ≤ 1024 }
     ensures { MatchBool result
-        ((made (length memory.old) program.now core.old access.now (next_of program.now core.old) access.now.kind
+        ((made (length memory.old) program.now core.old access.now
+        (next_of program.now core.old) access.now.kind
         ≡ Some core.new)
         × (memory_after memory.old access.now ≡ Some memory.new))
-        ((made (length memory.old) program.now core.old access.now (next_of program.now core.old) access.now.kind ≡ None)
+        ((made (length memory.old) program.now core.old access.now
+        (next_of program.now core.old) access.now.kind ≡ None)
         ⊎ (memory_after memory.old access.now ≡ None)) }
 {
     let place = access.address as usize;

@@ -59,8 +59,10 @@ impl Controller {
         memory: &[u32],
     ) -> Result<Controller, NoMemory>
         requires { length memory.now ≡ 4 * mesh.now.lines }
-        ensures records { IfOk result (λ controller. controller ≡ opening_records (chip_of_mesh mesh.now) tile memory.now) }
-        ensures homes { IfOk result (λ controller. KeepsHomes (chip_of_mesh mesh.now) tile controller) }
+        ensures records { IfOk result (λ controller.
+            controller ≡ opening_records (chip_of_mesh mesh.now) tile memory.now) }
+        ensures homes { IfOk result (λ controller.
+            KeepsHomes (chip_of_mesh mesh.now) tile controller) }
     {
         let mut records = Vec::with_capacity(alloc, usize::from(mesh.lines))?;
         for line in 0..mesh.lines {
@@ -73,11 +75,14 @@ impl Controller {
     /// another tile.
     pub fn on_request(&mut self, q: Request, out: &mut OutQueue)
         requires room { length (out.old ++ (answered q self.old).sends) ≤ QUEUE_PLACES }
-        requires waiting { (r : LineRecord) → record_of self.old q.line ≡ Some r → TakesRequest q LIST_PLACES r }
+        requires waiting { (r : LineRecord) → record_of self.old q.line ≡ Some r
+            → TakesRequest q LIST_PLACES r }
         ensures records { self.new ≡ (answered q self.old).records }
         ensures sent { out.new ≡ out.old ++ (answered q self.old).sends }
-        ensures owners { (line : ℕ) → owner_in self.new line ≡ next_owner line q (owner_in self.old line) }
-        ensures homes { (chip : Chip) (tile : ℕ) → KeepsHomes chip tile self.old → KeepsHomes chip tile self.new }
+        ensures owners { (line : ℕ)
+            → owner_in self.new line ≡ next_owner line q (owner_in self.old line) }
+        ensures homes { (chip : Chip) (tile : ℕ) → KeepsHomes chip tile self.old
+            → KeepsHomes chip tile self.new }
     {
         let line = usize::from(q.line);
         if line < self.records.len() {
@@ -89,11 +94,13 @@ impl Controller {
 
     /// The words of a line came back to memory: all that wait for them get them.
     pub fn on_back(&mut self, line: u16, words: Words, out: &mut OutQueue)
-        requires room { length (out.old ++ (back_arrived line words self.old).sends) ≤ QUEUE_PLACES }
+        requires room { length (out.old ++ (back_arrived line words self.old).sends)
+            ≤ QUEUE_PLACES }
         ensures records { self.new ≡ (back_arrived line words self.old).records }
         ensures sent { out.new ≡ out.old ++ (back_arrived line words self.old).sends }
         ensures owners { (other : ℕ) → owner_in self.new other ≡ owner_in self.old other }
-        ensures homes { (chip : Chip) (tile : ℕ) → KeepsHomes chip tile self.old → KeepsHomes chip tile self.new }
+        ensures homes { (chip : Chip) (tile : ℕ) → KeepsHomes chip tile self.old
+            → KeepsHomes chip tile self.new }
     {
         let place = usize::from(line);
         if place < self.records.len() {
@@ -107,7 +114,8 @@ impl Controller {
     /// another tile.
     pub fn home_record(&self, line: u16) -> Option<(Owner, Words, bool)>
         ensures record { option_map told_of (record_of self.now line) ≡ result }
-        ensures none { (chip : Chip) (tile : ℕ) → KeepsHomes chip tile self.now → line < chip.lines → (IsNone result ↔ (home chip line ≢ tile)) }
+        ensures none { (chip : Chip) (tile : ℕ) → KeepsHomes chip tile self.now → line < chip.lines
+            → (IsNone result ↔ (home chip line ≢ tile)) }
     {
         let record = self.records.get(usize::from(line))?.as_ref()?;
         Some(record.told())

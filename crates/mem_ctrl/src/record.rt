@@ -25,7 +25,12 @@ impl Model for Record {
 
     ghost Value = { LineRecord };
 
-    ghost view = { λ r. record { owner = r.owner; words = r.words; fresh = r.fresh; waiters = r.waiters } };
+    ghost view = { λ r. record {
+      owner = r.owner;
+      words = r.words;
+      fresh = r.fresh;
+      waiters = r.waiters;
+    } };
 
     ghost invariant = { λ r. WritesLast r.waiters };
 }
@@ -75,7 +80,8 @@ impl Record {
 
     // A request for the line is delivered.
     pub(crate) fn answer(&mut self, q: Request, out: &mut OutQueue)
-        requires room { length (out.old ++ (answered_by q self.old self.old.owner).sends) ≤ QUEUE_PLACES }
+        requires room { length (out.old ++ (answered_by q self.old self.old.owner).sends)
+            ≤ QUEUE_PLACES }
         requires waiting { TakesRequest q LIST_PLACES self.old }
         ensures left { self.new ≡ (answered_by q self.old self.old.owner).left }
         ensures sent { out.new ≡ out.old ++ (answered_by q self.old self.old.owner).sends }

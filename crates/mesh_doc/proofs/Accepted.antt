@@ -1,7 +1,7 @@
 -- A document that is accepted keeps to every limit.
 use Rattle.std.proofs.Common.{◌≡◌, ℕ, zero, suc, ◌+◌, ◌-◌, ◌*◌, ◌<◌, max, Bool, true, false, not, List, [], ◌∷◌, ◌++◌, length, Option, Some, None, Ok, is_some, refl, sym, ap, ◌∙◌, subst, arith}
 use Rattle.std.specs.Prelude.{replicate}
-use Rattle.std.specs.List.{flat_map, AllByRecursion}
+use Rattle.std.specs.List.{flat_map, AllByRecursion, range_with_len}
 use Rattle.std.specs.Option.{unwrap_or}
 use Rattle.std.proofs.lemmas.List.{length-append, length-map, length-replicate}
 use Rattle.mesh_gen.specs.Limits.{IsFrom, AreTiles, most_side}
@@ -17,12 +17,12 @@ use Rattle.doc_text.specs.Doc.{Doc}
 use Rattle.mesh_doc.specs.Tables.{table_of, cores_of, value}
 use Rattle.mesh_doc.specs.Values.{Sizes, number_in, number_of, repeated, tiles, windows, words, is_within}
 use Rattle.mesh_doc.specs.Faults.{fault_if, mesh_table, mesh_sizes, tiles_described, range_fault, range_faults, core_range_fault, out_of_range, controllers, core_tiles, controllers_twice, cores_twice, bad_programs, table_faults, value_faults, faults}
-use Rattle.mesh_doc.specs.Reading.{image, below, document, first, accepted, reading_of, reading_if, reading}
+use Rattle.mesh_doc.specs.Reading.{image, document, first, accepted, reading_of, reading_if, reading}
 use Rattle.mesh_doc.specs.Laws.{KeepsLimits}
 use Rattle.mesh_doc.proofs.Firsts.{first_none}
 use Rattle.mesh_doc.proofs.Items.{list_in-all}
 use Rattle.mesh_doc.proofs.Numbers.{number_in-limits, number_in-number}
-use Rattle.mesh_doc.proofs.Placing.{length-below}
+use Rattle.std.proofs.lemmas.List.FromFn.{length-range_with_len}
 use Rattle.mesh_doc.proofs.Distinct.{AreTiles-tiles, ArePosts-windows, few_words}
 use Rattle.mesh_doc.proofs.Described.{nothing_mapped}
 
@@ -139,7 +139,7 @@ keeps top is =
       controllers = controllers_kept top some (kept sizes mesh Controllers listed) single;
       memory = words_kept.long;
       words = words_kept.limited;
-      programs = length-map (below (tiles_described top)) _ ∙ length-below (tiles_described top);
+      programs = length-map (range_with_len 0 (tiles_described top)) _ ∙ length-range_with_len 0 (tiles_described top);
       posts = posts_kept (tiles_described top) some (value Posts top) (kept sizes top Posts posts);
     }
 

@@ -1,4 +1,5 @@
 -- What was said is what the table describes.
+use Rattle.std.specs.List.{range_with_len}
 use Rattle.std.proofs.Common.{◌≡◌, List, [], ◌∷◌, ◌++◌, map, Some, Result, Ok, Err, IfOk, IfErr, refl}
 use Rattle.core_isa.specs.declared.instr.Instr.{Instr}
 use Rattle.toml.specs.Data.{Members}
@@ -10,7 +11,7 @@ use Rattle.mesh_doc.specs.declared.end.DocEnd.TheVariants.{NoMemory}
 use Rattle.mesh_doc.specs.declared.said.Said.{Said}
 use Rattle.mesh_doc.specs.Tables.{cores_of}
 use Rattle.mesh_doc.specs.Faults.{tiles_described, out_of_range, controllers, core_tiles, controllers_twice, cores_twice, bad_programs, value_faults}
-use Rattle.mesh_doc.specs.Reading.{first, document, program_of_tile, below}
+use Rattle.mesh_doc.specs.Reading.{first, document, program_of_tile}
 use Rattle.mesh_doc.specs.Seen.{IsFirst, Ends}
 use Rattle.mesh_doc.specs.Said.{Says, count_of, IsDocumentOf}
 use Rattle.mesh_doc.proofs.Firsts.{first_front, first_rest, end_front, end_rest, both_empty}
@@ -74,7 +75,7 @@ ended faults (Err end) none memory = rw memory tt
 
 -- ---- what the table describes
 
-described : (top : Members) (said : Said) (placed : List (List Instr)) (d : Document) → Says top said → placed ≡ map (program_of_tile (tiles_described top) (cores_of top)) (below (tiles_described top)) → IsDocumentOf said placed d
+described : (top : Members) (said : Said) (placed : List (List Instr)) (d : Document) → Says top said → placed ≡ map (program_of_tile (tiles_described top) (cores_of top)) (range_with_len 0 (tiles_described top)) → IsDocumentOf said placed d
     → document top ≡ doc_of d
 unfolding document
 described top said placed d says all is =
@@ -105,7 +106,7 @@ described top said placed d says all is =
       says.posts,
     ) refl
 
-pub read_is : (top : Members) (said : Said) (placed : List (List Instr)) (read : Result Document DocEnd) → Says top said → placed ≡ map (program_of_tile (tiles_described top) (cores_of top)) (below (tiles_described top))
+pub read_is : (top : Members) (said : Said) (placed : List (List Instr)) (read : Result Document DocEnd) → Says top said → placed ≡ map (program_of_tile (tiles_described top) (cores_of top)) (range_with_len 0 (tiles_described top))
     → IfOk read (IsDocumentOf said placed) → IfOk read (λ d. document top ≡ doc_of d)
 read_is top said placed (Ok d) says all is = described top said placed d says all is
 read_is top said placed (Err end) says all is = tt

@@ -8,8 +8,9 @@ use Rattle.toml.specs.Data.{Data, as_array}
 use Rattle.toml.specs.View.{view, items_view}
 use Rattle.toml.specs.declared.value.Value.{Value}
 use Rattle.toml.proofs.Views.{items_view-drop}
+use Rattle.mesh_gen.specs.Partial.{when}
 use Rattle.mesh_doc.specs.Tables.{listed}
-use Rattle.mesh_doc.specs.Values.{only_if, is_count, each, items_in, list_in}
+use Rattle.mesh_doc.specs.Values.{is_count, each, items_in, list_in}
 
 pub length-listed : (values : List Value) → length (listed (items_view values)) ≡ length values
 length-listed [] = refl
@@ -77,7 +78,7 @@ unfolding items_in
 items_in-other least most value is = rw (← is) refl
 
 pub items_in-count : (least most : ℕ) (value : Data) (values : List Value) (passes : Bool) → Some (items_view values) ≡ as_array value → is_count least most (length values) ≡ passes
-    → items_in least most value ≡ only_if passes (Some (listed (items_view values)))
+    → items_in least most value ≡ when passes (Some (listed (items_view values)))
 unfolding items_in
 items_in-count least most value values passes is count = rw (← is, length-listed values, count) refl
 
@@ -112,7 +113,7 @@ pub bind_some : {A B : Type 0} (f : A → Option B) (o : Option A) (y : B) → o
 bind_some f None y is = cc
 bind_some f (Some x) y is = (x, refl, is)
 
-pub from_only_if : {A : Type 0} (passes : Bool) (found : Option A) (x : A) → only_if passes found ≡ Some x → (passes ≡ true) × (found ≡ Some x)
+pub from_only_if : {A : Type 0} (passes : Bool) (found : Option A) (x : A) → when passes found ≡ Some x → (passes ≡ true) × (found ≡ Some x)
 from_only_if true found x is = (refl, is)
 from_only_if false found x is = cc
 

@@ -6,8 +6,9 @@ use Rattle.std.proofs.lemmas.Int.{ints}
 use Rattle.toml.specs.Data.{Data, integer, string, float, boolean, datetime, array, table, as_integer}
 use Rattle.doc_text.specs.declared.column.Omitted.{Omitted}
 use Rattle.doc_text.specs.declared.column.Omitted.TheVariants.{Refused, Default, FirstTile, Empty}
+use Rattle.mesh_gen.specs.Partial.{when}
 use Rattle.mesh_doc.specs.Tables.{default}
-use Rattle.mesh_doc.specs.Values.{from_to, only_if, number_in, number_of}
+use Rattle.mesh_doc.specs.Values.{from_to, number_in, number_of}
 
 both : (a b : Bool) → a ≡ true → b ≡ true → (a && b) ≡ true
 both a b p q = rw (p, q) refl
@@ -38,7 +39,7 @@ unfolding number_in
 number_in-other least most value is = rw (← is) refl
 
 -- what passed is within the limits
-passed : (least most k n : ℕ) (low high : Bool) → nat_le least k ≡ low → nat_le k most ≡ high → only_if (low && high) (Some k) ≡ Some n → (least ≤ n) × (n ≤ most)
+passed : (least most k n : ℕ) (low high : Bool) → nat_le least k ≡ low → nat_le k most ≡ high → when (low && high) (Some k) ≡ Some n → (least ≤ n) × (n ≤ most)
 passed least most k n true true low high is = rw (← same_Some _ _ is) (leb-true least k low, leb-true k most high)
 passed least most k n true false low high is = cc
 passed least most k n false high low is_high is = cc
@@ -53,7 +54,7 @@ unfolding number_in
 number_in-limits least most value n is = by_integer least most (as_integer value) n is
 
 -- and it is the number that the value is
-kept : (passes : Bool) (k n : ℕ) → only_if passes (Some k) ≡ Some n → Some k ≡ Some n
+kept : (passes : Bool) (k n : ℕ) → when passes (Some k) ≡ Some n → Some k ≡ Some n
 kept true k n is = is
 kept false k n is = cc
 

@@ -1,4 +1,5 @@
 -- What bytes describe, or what is wrong with them first.
+use Rattle.std.specs.List.{range_with_len}
 use Rattle.std.specs.Prelude.{◌≡◌, ℕ, zero, suc, ◌-◌, ◌*◌, ◌==◌, replicate, if◌then◌else◌, List, [], ◌∷◌, ◌++◌, length, map, Option, Some, None, Result, Ok, Err}
 use Rattle.std.specs.Bool.{⊤}
 use Rattle.std.specs.Option.{unwrap_or}
@@ -18,11 +19,6 @@ use Rattle.mesh_doc.specs.Faults.{faults, mesh_table, mesh_sizes, tiles_describe
 -- the words of memory, those that are not written being 0
 abbrev pub image : ℕ → List ℕ → List ℕ
 image count words = words ++ replicate (count - length words) 0
-
--- the numbers below n
-abbrev pub below : ℕ → List ℕ
-below zero = []
-below (suc n) = below n ++ n ∷ []
 
 -- the program of a core's table
 abbrev pub program_in : Part → List Instr
@@ -49,7 +45,7 @@ document top =
       ways = number_of (value Ways mesh);
       controllers = controllers top;
       memory = image (4 * sizes.lines) (unwrap_or (words sizes.lines (value Memory mesh)) []);
-      programs = map (program_of_tile (tiles_described top) (cores_of top)) (below (tiles_described top));
+      programs = map (program_of_tile (tiles_described top) (cores_of top)) (range_with_len 0 (tiles_described top));
       posts = unwrap_or (windows (tiles_described top) (value Posts top)) [];
     }
 
@@ -58,6 +54,7 @@ abbrev pub first : {A : Type 0} → List A → Option A
 first [] = None
 first (x ∷ rest) = Some x
 
+-- the first fault, where there is one, and else the document
 abbrev pub accepted : Option DocFault → Doc → Result Doc DocFault
 accepted None doc = Ok doc
 accepted (Some fault) doc = Err fault
@@ -66,6 +63,7 @@ accepted (Some fault) doc = Err fault
 unfoldable pub reading_of : Members → Result Doc DocFault
 reading_of top = accepted (first (faults top)) (document top)
 
+-- what a table describes, where the bytes are TOML
 abbrev pub reading_if : Option Members → Result Doc DocFault
 reading_if None = Err NotToml
 reading_if (Some top) = reading_of top

@@ -12,6 +12,7 @@ use Rattle.mesh_doc.specs.Faults.{mesh_table, core_tiles}
 use Rattle.mesh_doc.specs.Reading.{image}
 use Rattle.mesh_doc.specs.Seen.{IsExtentOf, AreSizesOf}
 
+-- how many tiles there are
 abbrev pub count_of : Said → ℕ
 count_of said = said.extent.cols * said.extent.rows
 

@@ -21,6 +21,7 @@ use Rattle.mesh_doc.specs.Reading.{first}
 abbrev pub part_seen : PartRef → Part
 part_seen part = record { place = part.place; table = table_view part.table.now }
 
+-- tables in their places
 abbrev pub parts_seen : List PartRef → List Part
 parts_seen parts = map part_seen parts
 
@@ -34,6 +35,7 @@ abbrev pub IsFirst : List DocFault → DocEnd → Type 0
 IsFirst faults (Fault fault) = first faults ≡ Some fault
 IsFirst faults NoMemory = ⊤
 
+-- a search that takes memory found none, or the first, or out of memory
 abbrev pub Ends : {A : Type 0} → List DocFault → Result A DocEnd → Type 0
 Ends faults (Ok answer) = faults ≡ []
 Ends faults (Err end) = IsFirst faults end

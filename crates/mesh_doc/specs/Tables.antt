@@ -19,11 +19,12 @@ use Rattle.doc_text.specs.Keys.{row_of}
 unfoldable pub table_of : List ℕ → Option Members
 table_of bytes = if is_utf8 bytes then parse_document bytes else None
 
--- the items of a list, and the keys of a table
+-- the items of a list
 abbrev pub listed : Items → List Data
 listed no_items = []
 listed (item value rest) = value ∷ listed rest
 
+-- the keys of a table
 abbrev pub keys : Members → List (List ℕ)
 keys no_members = []
 keys (member key value rest) = key ∷ keys rest
@@ -53,12 +54,13 @@ pub record Part : Type 0 where
   pub place : Place
   pub table : Members
 
--- the table's level, and the position that its faults tell
+-- the table's level
 abbrev pub level_of : Place → Level
 level_of Top = level.Top
 level_of Mesh = level.Mesh
 level_of (Core at) = level.Core
 
+-- the position of a core in the list, and 0 for the other tables
 abbrev pub position : Place → ℕ
 position (Core at) = at
 position _ = 0
@@ -75,10 +77,11 @@ core_part numbered = option_map (λ table. record { place = Core numbered.0; tab
 unfoldable pub cores_of : Members → List Part
 cores_of top = filter_map core_part (enumerate_from 0 (items (value key.Core top)))
 
--- all tables with keys of their own: the whole, the mesh, and the cores in their order
+-- the table of the mesh as a part, where there is one
 abbrev pub mesh_part : Option Members → List Part
 mesh_part None = []
 mesh_part (Some mesh) = record { place = Mesh; table = mesh } ∷ []
 
+-- all tables with keys of their own: the whole, the mesh, and the cores in their order
 unfoldable pub parts_of : Members → List Part
 parts_of top = record { place = Top; table = top } ∷ mesh_part (table_of_mesh top) ++ cores_of top

@@ -1,5 +1,6 @@
 -- What values say that keep to their limits.
 use Rattle.std.specs.Prelude.{ℕ, ◌+◌, ◌-◌, ◌*◌, max, nat_le, ℤ, pos, negsuc, Bool, true, false, ◌&&◌, if◌then◌else◌, List, [], ◌∷◌, ◌++◌, length, Option, Some, None, option_map, option_and_then, is_some}
+use Rattle.mesh_gen.specs.Partial.{when, ◌>>=◌}
 use Rattle.mesh_gen.specs.TileSet.{is_among}
 use Rattle.toml.specs.Data.{Data, integer, Members, as_integer, as_array}
 use Rattle.doc_text.specs.declared.key.Key.TheVariants.{Cols, Rows, Lines}
@@ -7,17 +8,9 @@ use Rattle.doc_text.specs.declared.column.Limit.{Limit}
 use Rattle.doc_text.specs.declared.column.Limit.TheVariants.{Free, Number, Ticks, Tile, Tiles, Windows, Words}
 use Rattle.mesh_doc.specs.Tables.{listed, value}
 
-infixl 10 ◌>>=◌
-abbrev ◌>>=◌ : {A B : Type 0} → Option A → (A → Option B) → Option B
-o >>= f = option_and_then f o
-
--- the value, where it passes the test
-abbrev pub only_if : {A : Type 0} → Bool → Option A → Option A
-only_if passes found = if passes then found else None
-
 -- an integer from the least to the most
 abbrev pub from_to : ℕ → ℕ → ℤ → Option ℕ
-from_to least most (pos n) = only_if (nat_le least n && nat_le n most) (Some n)
+from_to least most (pos n) = when (nat_le least n && nat_le n most) (Some n)
 from_to least most (negsuc n) = None
 
 -- that of a value
@@ -35,7 +28,7 @@ is_count least most count = nat_le least count && nat_le count most
 
 -- the items of a list that has at least and at most so many
 unfoldable pub items_in : ℕ → ℕ → Data → Option (List Data)
-items_in least most value = as_array value >>= (λ list. only_if (is_count least most (length (listed list))) (Some (listed list)))
+items_in least most value = as_array value >>= (λ list. when (is_count least most (length (listed list))) (Some (listed list)))
 
 -- what they say
 unfoldable pub list_in : {A : Type 0} → ℕ → ℕ → (Data → Option A) → Data → Option (List A)
@@ -55,6 +48,7 @@ abbrev pub number_of : Data → ℕ
 number_of (integer (pos n)) = n
 number_of _ = 0
 
+-- whether a list is empty
 abbrev pub has_no_items : {A : Type 0} → List A → Bool
 has_no_items [] = true
 has_no_items (x ∷ rest) = false
@@ -69,6 +63,7 @@ pub record Sizes : Type 0 where
 abbrev pub sizes_of : Members → Sizes
 sizes_of mesh = record { cols = number_of (value Cols mesh); rows = number_of (value Rows mesh); lines = number_of (value Lines mesh) }
 
+-- how many tiles a mesh of these sizes has
 abbrev pub tiles_of : Sizes → ℕ
 tiles_of sizes = sizes.cols * sizes.rows
 
@@ -80,8 +75,9 @@ tile count datum = number_in 0 (count - 1) datum
 abbrev pub tiles : ℕ → Data → Option (List ℕ)
 tiles count datum = list_in 1 count (tile count) datum
 
+-- the list, where no tile stands twice in it
 abbrev pub if_distinct : List ℕ → Option (List ℕ)
-if_distinct list = only_if (has_no_items (repeated list)) (Some list)
+if_distinct list = when (has_no_items (repeated list)) (Some list)
 
 -- the tiles that post in a window, each once
 unfoldable pub window : ℕ → Data → Option (List ℕ)

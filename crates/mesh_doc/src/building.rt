@@ -1,5 +1,5 @@
 ghost use Rattle.std.specs.Prelude.{◌≡◌, ◌*◌, ◌+◌, ◌-◌, ◌<◌, ◌≤◌, max, length, map, IfOk, IfErr, option_map};
-ghost use Rattle.std.specs.List.{flat_map};
+ghost use Rattle.std.specs.List.{flat_map, range_with_len};
 ghost use Rattle.mesh_gen.specs.Limits.{IsFrom, AreTiles};
 ghost use Rattle.toml.specs.View.{view, table_view, items_view};
 ghost use Rattle.doc_text.specs.declared.key.Key.TheVariants.{Posts as AtPosts, Controllers as AtControllers, Memory as AtMemory};
@@ -8,7 +8,7 @@ ghost use Rattle.doc_text.specs.Limits.{ArePosts};
 ghost use Rattle.mesh_doc.specs.Tables.{cores_of, value, listed};
 ghost use Rattle.mesh_doc.specs.Values.{tiles, windows, window, words, each};
 ghost use Rattle.mesh_doc.specs.Faults.{out_of_range, core_range_fault, core_tile, bad_program, value_faults, controllers_twice, cores_twice};
-ghost use Rattle.mesh_doc.specs.Reading.{document, image, program_of_tile, below};
+ghost use Rattle.mesh_doc.specs.Reading.{document, image, program_of_tile};
 ghost use Rattle.mesh_doc.specs.declared.end.DocEnd.TheVariants.{NoMemory as OutOfMemory};
 ghost use Rattle.mesh_doc.specs.MeshSeen.{mesh_seen};
 ghost use Rattle.mesh_doc.specs.Seen.{part_seen, parts_seen, Finds, Ends};
@@ -56,7 +56,8 @@ fn read_programs(
 ) -> Result<Vec<Program>, DocEnd>
     requires { tiles.now ≡ map (core_tile count) (parts_seen cores.now) }
     ensures faults { Ends (flat_map (bad_program count) (parts_seen cores.now)) result }
-    ensures programs { IfOk result (λ placed. placed.items ≡ map (program_of_tile count (parts_seen cores.now)) (below count)) }
+    ensures programs { IfOk result (λ placed.
+        placed.items ≡ map (program_of_tile count (parts_seen cores.now)) (range_with_len 0 count)) }
 {
     let programs = assemble_cores(alloc, cores, tiles, count)?;
     Ok(place_programs(alloc, programs, cores, tiles, count)?)
@@ -139,7 +140,8 @@ fn read_controllers(
     count: u8,
 ) -> Result<Option<Vec<u8>>, NoMemory>
     requires { 0 < count }
-    ensures { IfOk result (λ found. option_map (λ list. list.items) found ≡ tiles count (value AtControllers (mesh_seen mesh.entry))) }
+    ensures { IfOk result (λ found. option_map (λ list. list.items) found
+        ≡ tiles count (value AtControllers (mesh_seen mesh.entry))) }
 {
     match written_in(mesh, Key::Controllers) {
         Some(value) => read_tiles(alloc, value, count),
@@ -153,7 +155,8 @@ fn read_memory(
     mesh: Option<&Table>,
     lines: u16,
 ) -> Result<Option<Vec<u32>>, NoMemory>
-    ensures { IfOk result (λ found. option_map (λ list. list.items) found ≡ words lines (value AtMemory (mesh_seen mesh.entry))) }
+    ensures { IfOk result (λ found. option_map (λ list. list.items) found
+        ≡ words lines (value AtMemory (mesh_seen mesh.entry))) }
 {
     match written_in(mesh, Key::Memory) {
         Some(value) => read_words(alloc, value, lines),
@@ -174,7 +177,8 @@ fn filled(words: Vec<u32>, lines: u16) -> Result<Vec<u32>, NoMemory>
 fn read_core_tiles(alloc: Global, cores: &[Part<'_>], count: u8) -> Result<Vec<u8>, DocEnd>
     requires { 0 < count }
     ensures faults { Ends (flat_map (core_range_fault count) (parts_seen cores.now)) result }
-    ensures tiles { IfOk result (λ list. list.items ≡ map (core_tile count) (parts_seen cores.now)) }
+    ensures tiles { IfOk result (λ list.
+        list.items ≡ map (core_tile count) (parts_seen cores.now)) }
 {
     let mut tiles = Vec::new(alloc);
     for core in cores {
@@ -219,7 +223,8 @@ fn check_core_tiles(tiles: &[u8]) -> Result<(), DocFault>
 
 // The document of what was said, with these programs.
 fn document_of(said: Said, programs: Vec<Program>) -> Result<Document, DocEnd>
-    requires window { IsFrom (max 1 ((said.extent.cols - 1) + (said.extent.rows - 1))) 64 said.sizes.window }
+    requires window { IsFrom
+        (max 1 ((said.extent.cols - 1) + (said.extent.rows - 1))) 64 said.sizes.window }
     requires controllers { ∥ AreTiles (count_of said) said.controllers.items ∥₁ }
     requires words { length said.words.items ≤ 4 * said.sizes.lines }
     requires programs { length programs.items ≡ count_of said }

@@ -1,7 +1,7 @@
 ghost use Rattle.std.specs.Prelude.{◌≡◌, [], map, slice_set, Ok, IfOk, IfErr};
-ghost use Rattle.std.specs.List.{flat_map};
+ghost use Rattle.std.specs.List.{flat_map, range_with_len};
 ghost use Rattle.mesh_doc.specs.Faults.{bad_program, core_tile, core_program};
-ghost use Rattle.mesh_doc.specs.Reading.{program_in, program_of_tile, below};
+ghost use Rattle.mesh_doc.specs.Reading.{program_in, program_of_tile};
 ghost use Rattle.mesh_doc.specs.Seen.{part_seen, parts_seen, Ends, IsRefused};
 
 use crate::DocEnd;
@@ -20,7 +20,8 @@ pub(crate) fn assemble_cores(
 ) -> Result<Vec<Program>, DocEnd>
     requires { tiles.now ≡ map (core_tile count) (parts_seen cores.now) }
     ensures faults { Ends (flat_map (bad_program count) (parts_seen cores.now)) result }
-    ensures programs { IfOk result (λ programs. programs.items ≡ map program_in (parts_seen cores.now)) }
+    ensures programs { IfOk result (λ programs.
+        programs.items ≡ map program_in (parts_seen cores.now)) }
 {
     let mut programs = Vec::new(alloc);
     for (i, core) in cores.iter().enumerate() {
@@ -54,7 +55,8 @@ pub(crate) fn place_programs(
 ) -> Result<Vec<Program>, NoMemory>
     requires programs { programs.items ≡ map program_in (parts_seen cores.now) }
     requires tiles { tiles.now ≡ map (core_tile count) (parts_seen cores.now) }
-    ensures { IfOk result (λ placed. placed.items ≡ map (program_of_tile count (parts_seen cores.now)) (below count)) }
+    ensures { IfOk result (λ placed.
+        placed.items ≡ map (program_of_tile count (parts_seen cores.now)) (range_with_len 0 count)) }
 {
     let mut placed = empty_programs(alloc, count)?;
     let mut left = programs;
@@ -74,7 +76,8 @@ fn put(programs: &mut Vec<Program>, tile: u8, program: Program)
 }
 
 fn empty_programs(alloc: Global, count: u8) -> Result<Vec<Program>, NoMemory>
-    ensures { IfOk result (λ programs. programs.items ≡ map (program_of_tile count []) (below count)) }
+    ensures { IfOk result (λ programs.
+        programs.items ≡ map (program_of_tile count []) (range_with_len 0 count)) }
 {
     let mut programs = Vec::new(alloc);
     for _tile in 0..count {

@@ -91,9 +91,11 @@ fn bounded(number: u32, least: u32, most: u32) -> Option<u32>
 
 // The number that stands for a key of the mesh, or that it is out of its range.
 fn number(mesh: Option<&Table>, key: Key, least: u32, most: u32) -> Result<u32, DocFault>
-    ensures said { IfOk result (λ n. number_in least most (value key (mesh_seen mesh.entry)) ≡ Some n) }
+    ensures said { IfOk result (λ n.
+        number_in least most (value key (mesh_seen mesh.entry)) ≡ Some n) }
     ensures limits { IfOk result (IsFrom least most) }
-    ensures fault { IfErr result (λ f. (f ≡ OutOfRange key 0) × (number_in least most (value key (mesh_seen mesh.entry)) ≡ None)) }
+    ensures fault { IfErr result (λ f. (f ≡ OutOfRange key 0)
+        × (number_in least most (value key (mesh_seen mesh.entry)) ≡ None)) }
 {
     match number_at(mesh, key, least, most) {
         Some(number) => Ok(number),
@@ -140,9 +142,11 @@ impl Sizes {
     /// The numbers of the mesh beside its size.
     pub(crate) fn read(mesh: Option<&Table>, extent: &Extent) -> Result<Sizes, DocFault>
         requires { IsExtentOf (mesh_seen mesh) extent.now }
-        ensures finds { Finds (range_faults (mesh_seen mesh.entry) (AtWindow ∷ AtVcs ∷ AtDataVcs ∷ AtLines ∷ AtSets ∷ AtWays ∷ [])) result }
+        ensures finds { Finds (range_faults (mesh_seen mesh.entry)
+            (AtWindow ∷ AtVcs ∷ AtDataVcs ∷ AtLines ∷ AtSets ∷ AtWays ∷ [])) result }
         ensures said { IfOk result (AreSizesOf (mesh_seen mesh.entry)) }
-        ensures window { IfOk result (λ sizes. IsFrom (max 1 ((extent.now.cols - 1) + (extent.now.rows - 1))) 64 sizes.window) }
+        ensures window { IfOk result (λ sizes.
+            IsFrom (max 1 ((extent.now.cols - 1) + (extent.now.rows - 1))) 64 sizes.window) }
     {
         let least = extent.least_window();
         let window = number(mesh, Key::Window, least, 64)?;

@@ -37,7 +37,8 @@ pub(crate) fn core_parts<'a>(alloc: Global, top: &'a Table) -> Result<Vec<Part<'
 }
 
 fn parts_in<'a>(alloc: Global, items: &'a [Value]) -> Result<Vec<Part<'a>>, NoMemory>
-    ensures { IfOk result (λ cores. parts_seen cores.items ≡ filter_map core_part (enumerate_from 0 (listed (items_view items.now)))) }
+    ensures { IfOk result (λ cores. parts_seen cores.items
+        ≡ filter_map core_part (enumerate_from 0 (listed (items_view items.now)))) }
 {
     let mut cores = Vec::new(alloc);
     for (at, item) in items.iter().enumerate() {
@@ -52,7 +53,8 @@ fn parts_in<'a>(alloc: Global, items: &'a [Value]) -> Result<Vec<Part<'a>>, NoMe
 // The whole table, and that of the mesh.
 fn head_parts<'a>(alloc: Global, top: &'a Table) -> Result<Vec<Part<'a>>, NoMemory>
     ensures { IfOk result (λ parts. parts_seen parts.items
-        ≡ record { place = AtTop; table = table_view top.now } ∷ mesh_part (table_of_mesh (table_view top.now))) }
+        ≡ record { place = AtTop; table = table_view top.now }
+        ∷ mesh_part (table_of_mesh (table_view top.now))) }
 {
     let mut parts = Vec::new(alloc);
     parts.push(Part {

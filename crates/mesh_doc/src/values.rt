@@ -91,7 +91,8 @@ fn check_tables(key: Key, value: &Value) -> Result<(), DocFault>
 }
 
 fn check_items(key: Key, items: &[Value]) -> Result<(), DocFault>
-    ensures { Finds (flat_map (no_table key) (enumerate_from 0 (listed (items_view items.now)))) result }
+    ensures { Finds
+        (flat_map (no_table key) (enumerate_from 0 (listed (items_view items.now)))) result }
 {
     for (at, item) in items.iter().enumerate() {
         if !item.is_table() {
@@ -116,7 +117,8 @@ pub(crate) fn number_in(value: &Value, least: u32, most: u32) -> Option<u32>
 
 /// The items of a list that has at least and at most so many.
 pub(crate) fn items_in(value: &Value, least: usize, most: usize) -> Option<&[Value]>
-    ensures { option_map (λ items. listed (items_view items.now)) result ≡ items_in least most (view value.now) }
+    ensures { option_map (λ items. listed (items_view items.now)) result
+        ≡ items_in least most (view value.now) }
 {
     let Some(array) = value.as_array() else {
         return None;
@@ -142,7 +144,8 @@ pub(crate) fn read_tiles(
     count: u8,
 ) -> Result<Option<Vec<u8>>, NoMemory>
     requires { 0 < count }
-    ensures { IfOk result (λ found. option_map (λ list. list.items) found ≡ tiles count (view value.now)) }
+    ensures { IfOk result (λ found.
+        option_map (λ list. list.items) found ≡ tiles count (view value.now)) }
 {
     match items_in(value, 1, usize::from(count)) {
         Some(items) => tiles_of(alloc, items, count - 1),
@@ -151,7 +154,8 @@ pub(crate) fn read_tiles(
 }
 
 fn tiles_of(alloc: Global, items: &[Value], last: u8) -> Result<Option<Vec<u8>>, NoMemory>
-    ensures { IfOk result (λ found. option_map (λ list. list.items) found ≡ each (number_in 0 last) (listed (items_view items.now))) }
+    ensures { IfOk result (λ found. option_map (λ list. list.items) found
+        ≡ each (number_in 0 last) (listed (items_view items.now))) }
 {
     let mut tiles = Vec::new(alloc);
     for item in items {
@@ -169,7 +173,8 @@ pub(crate) fn read_words(
     value: &Value,
     lines: u16,
 ) -> Result<Option<Vec<u32>>, NoMemory>
-    ensures { IfOk result (λ found. option_map (λ list. list.items) found ≡ words lines (view value.now)) }
+    ensures { IfOk result (λ found.
+        option_map (λ list. list.items) found ≡ words lines (view value.now)) }
 {
     match items_in(value, 0, 4 * usize::from(lines)) {
         Some(items) => words_of(alloc, items),
@@ -178,7 +183,8 @@ pub(crate) fn read_words(
 }
 
 fn words_of(alloc: Global, items: &[Value]) -> Result<Option<Vec<u32>>, NoMemory>
-    ensures { IfOk result (λ found. option_map (λ list. list.items) found ≡ each (number_in 0 4294967295) (listed (items_view items.now))) }
+    ensures { IfOk result (λ found. option_map (λ list. list.items) found
+        ≡ each (number_in 0 4294967295) (listed (items_view items.now))) }
 {
     let mut words = Vec::new(alloc);
     for item in items {

@@ -40,8 +40,8 @@ way_of g s r v some = pick (covers g s r v L) (covers g s r v E) (covers g s r v
 pub covers_from_leads : (g : Grid) (s r v : ℕ) (p : Port) → HasTiles g → Leads g s r p v → covers g s r v p ≡ true
 covers_from_leads g s r v p some here = eq-eqb r r refl
 covers_from_leads g s r v p some (there {n = n} {next = q} edge leads) =
-    let behind = covers_from_leads g s n v q some leads in
-    counted _ (omega (arith, some_way g s n v q behind, outputs_to-edge g s r n v p some edge))
+    let after = covers_from_leads g s n v q some leads in
+    counted _ (omega (arith, some_way g s n v q after, outputs_to-edge g s r n v p some edge))
 
 -- ---- what is served is led to: by induction on the distance
 

@@ -33,7 +33,7 @@ distance g a b = gap (x_of g a) (x_of g b) + gap (y_of g a) (y_of g b)
 abbrev pub diameter : Grid → ℕ
 diameter g = (g.cols - 1) + (g.rows - 1)
 
--- the tile on a side of a tile: none beyond an edge, on the tile's own side, or beside what is no tile
+-- the neighbour of a tile by a port: none beyond an edge, by the tile's own port, or of what is no tile
 abbrev pub neighbour : Grid → ℕ → Port → Option ℕ
 neighbour g t L = None
 neighbour g t E = when (nat_lt t (tiles g) && nat_lt (x_of g t + 1) g.cols) (Some (t + 1))

@@ -16,7 +16,7 @@ port_number S = 4
 abbrev pub same_port : Port → Port → Bool
 same_port p q = port_number p == port_number q
 
--- the port at which the neighbour on a side takes in what leaves by that side
+-- the port at which a neighbour takes in what leaves by this port
 abbrev pub opposite : Port → Port
 opposite L = L
 opposite E = W

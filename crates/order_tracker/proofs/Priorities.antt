@@ -50,10 +50,10 @@ round_first n first set t rest within fits small is loses =
             | inr other ↦ still_none set t rest i loses (later.1 i low (omega arith))
           ] in
           let front = filter-first (has_tile set) first t (n - first) (n - (t + 1)) later.0 (omega arith) is.inside later.1 in
-          let behind = filter-same (has_tile set) (has_tile rest) (t + 1) (n - (t + 1)) (λ i low high. kept set t rest i loses (λ same. absurd (omega arith))) in
+          let after = filter-same (has_tile set) (has_tile rest) (t + 1) (n - (t + 1)) (λ i low high. kept set t rest i loses (λ same. absurd (omega arith))) in
           let left = filter-skip (has_tile rest) first (t + 1) (n - first) (n - (t + 1)) (omega arith) (omega arith) fails in
           let wrapped = filter-same (has_tile set) (has_tile rest) 0 first (λ i low high. kept set t rest i loses (λ same. absurd (omega arith))) in
-          split ∙ rw (front, behind, wrapped, split_rest, left) refl
+          split ∙ rw (front, after, wrapped, split_rest, left) refl
       | inr (wraps, none, before) ↦
           let fails : (i : ℕ) → 0 ≤ i → i < t + 1 → has_tile rest i ≡ false = λ i low high. elim (cases_eq i t) [
             | inl same ↦ rw same (gone set t rest loses)
@@ -62,9 +62,9 @@ round_first n first set t rest within fits small is loses =
           let nothing = filter-none (has_tile set) first (n - first) (λ i low high. none i low (omega arith)) in
           let nothing_left = filter-none (has_tile rest) first (n - first) (λ i low high. still_none set t rest i loses (none i low (omega arith))) in
           let front = filter-first (has_tile set) 0 t first (first - (t + 1)) (omega arith) (omega arith) is.inside before in
-          let behind = filter-same (has_tile set) (has_tile rest) (t + 1) (first - (t + 1)) (λ i low high. kept set t rest i loses (λ same. absurd (omega arith))) in
+          let after = filter-same (has_tile set) (has_tile rest) (t + 1) (first - (t + 1)) (λ i low high. kept set t rest i loses (λ same. absurd (omega arith))) in
           let left = filter-skip (has_tile rest) 0 (t + 1) first (first - (t + 1)) (omega arith) (omega arith) fails in
-          split ∙ rw (nothing, front, behind, split_rest, nothing_left, left) refl
+          split ∙ rw (nothing, front, after, split_rest, nothing_left, left) refl
     ]
 
 -- a set with no tile has no turn

@@ -16,7 +16,8 @@ use Rattle.report_text.specs.declared.finish.Finish.TheVariants.{Finished, Budge
 use Rattle.report_text.specs.declared.report.Report.{Report}
 use Rattle.report_text.specs.Accesses.{is_read_modify_write}
 use Rattle.report_text.specs.Events.{event_words, IsWithinLimits}
-use Rattle.report_text.specs.Lines.{is_line_feed, text_of_lines, without_empty_end, lines_of, joined_words}
+use Rattle.core_isa.specs.Lines.{is_line_feed}
+use Rattle.report_text.specs.Lines.{text_of_lines, without_empty_end, lines_of, joined_words}
 use Rattle.report_text.specs.Reading.{Tells, is_passed}
 use Rattle.report_text.specs.Report.{request_rows, tile_rows, access_rows, memory_rows, memory_lines, event_rows, event_line, count_row, request_part, tile_part, access_part, memory_part, count_part, journal_part, finish_part, joined, report_lines, report_text}
 use Rattle.report_text.specs.Rows.{count_words, request_words, tile_words, access_words, memory_words, finish_words, kind_word, access_kind_word}

@@ -10,7 +10,8 @@ use Rattle.std.proofs.lemmas.List.Splits.{slice_split_first, length-slice_split}
 use Rattle.std.proofs.lemmas.Slice.Eq.{bytes_eq-Decides}
 use Rattle.report_text.specs.declared.event.Event.{Event}
 use Rattle.report_text.specs.Events.{IsWithinLimits}
-use Rattle.report_text.specs.Lines.{is_line_feed, without_empty_end, lines_of}
+use Rattle.core_isa.specs.Lines.{is_line_feed}
+use Rattle.report_text.specs.Lines.{without_empty_end, lines_of}
 use Rattle.report_text.specs.Reading.{first_word, passed_words, is_passed, begins_with_e, IsGood, Tells, IsFirstBadLine}
 use Rattle.report_text.specs.Report.{event_line}
 

@@ -6,7 +6,9 @@ use Rattle.std.proofs.lemmas.Bool.{ne_eqb, lt-ltb, eqb-true}
 use Rattle.std.proofs.lemmas.List.{append-nil}
 use Rattle.std.proofs.lemmas.List.Elements.{All-from_recursion}
 use Rattle.std.proofs.lemmas.List.Splits.{slice_split_none, slice_split_at, length-slice_split}
-use Rattle.report_text.specs.Lines.{is_space, is_line_feed, after_spaces, joined_words}
+use Rattle.core_isa.proofs.Elements.{AllByRecursion-append, AllByRecursion-map}
+use Rattle.core_isa.specs.Lines.{is_line_feed}
+use Rattle.report_text.specs.Lines.{is_space, after_spaces, joined_words}
 use Rattle.report_text.specs.Scanning.{words_of}
 
 -- bytes above spaces and line feeds
@@ -35,14 +37,6 @@ unfolding digits
 decimal-plain n = digits_onto-plain 64 n [] tt
 
 -- ---- lines of words
-
-AllByRecursion-append : (P : ℕ → Type 0) (xs ys : List ℕ) → AllByRecursion P xs → AllByRecursion P ys → AllByRecursion P (xs ++ ys)
-AllByRecursion-append P [] ys a b = b
-AllByRecursion-append P (x ∷ xs) ys a b = (a.0, AllByRecursion-append P xs ys a.1 b)
-
-AllByRecursion-map : (P Q : ℕ → Type 0) → ((x : ℕ) → P x → Q x) → (xs : List ℕ) → AllByRecursion P xs → AllByRecursion Q xs
-AllByRecursion-map P Q f [] a = tt
-AllByRecursion-map P Q f (x ∷ xs) a = (f x a.0, AllByRecursion-map P Q f xs a.1)
 
 no_space : (word : List ℕ) → IsPlain word → All (λ byte. is_space byte ≡ false) word
 no_space word plain = All-from_recursion _ _ (AllByRecursion-map _ (λ byte. is_space byte ≡ false) (λ byte h. ne_eqb byte 32 (λ e. omega arith)) word plain)

@@ -1,6 +1,7 @@
 -- Lines of a text. A line is the list of its bytes, without its line feed.
 use Rattle.std.specs.Prelude.{ℕ, ◌==◌, Bool, List, [], ◌∷◌, ◌++◌, length, if◌then◌else◌}
 use Rattle.std.specs.List.{flat_map, slice_split}
+use Rattle.core_isa.specs.Lines.{is_line_feed}
 
 -- a space divides the words of a line
 abbrev pub is_space : ℕ → Bool
@@ -22,10 +23,6 @@ ended line = line ++ 10 ∷ []
 -- each line with its line feed
 abbrev pub text_of_lines : List (List ℕ) → List ℕ
 text_of_lines lines = flat_map ended lines
-
--- a line feed ends a line
-abbrev pub is_line_feed : ℕ → Bool
-is_line_feed byte = byte == 10
 
 -- no line stands after the last line feed where nothing does
 abbrev pub without_empty_end : List (List ℕ) → List (List ℕ)

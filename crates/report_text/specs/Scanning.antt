@@ -14,10 +14,6 @@ use Rattle.report_text.specs.declared.operands.Operands.TheVariants.{Nothing, Ti
 use Rattle.report_text.specs.Events.{event_form, port_word}
 use Rattle.report_text.specs.Lines.{is_space}
 
--- texts as the code keeps them, without where their bytes lie in memory
-abbrev pub texts_seen : List (Bor (List ℕ)) → List (List ℕ)
-texts_seen texts = map (λ text. text.now) texts
-
 -- the parts of a line between its spaces
 abbrev pub words_of : List ℕ → List (List ℕ)
 words_of line = slice_split is_space line

@@ -1,7 +1,8 @@
 ghost use Rattle.std.specs.Prelude.{◌≡◌, IfOk, IfErr};
 ghost use Rattle.std.specs.List.{before_first, after_first, list_any};
 ghost use Rattle.std.specs.Str.{bytes_eq};
-ghost use Rattle.report_text.specs.Lines.{is_line_feed, lines_of};
+ghost use Rattle.core_isa.specs.Lines.{is_line_feed};
+ghost use Rattle.report_text.specs.Lines.{lines_of};
 ghost use Rattle.report_text.specs.Reading.{count_row_words, item_row_words, passed_words, Tells, IsEndOf};
 ghost use Rattle.report_text.specs.Telling.{IsToldBy};
 

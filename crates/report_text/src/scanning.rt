@@ -5,7 +5,8 @@ ghost use Rattle.report_text.specs.declared.event.Event.{Event};
 ghost use Rattle.report_text.specs.Events.{IsWithinLimits};
 ghost use Rattle.report_text.specs.Lines.{is_space};
 ghost use Rattle.report_text.specs.Report.{event_line};
-ghost use Rattle.report_text.specs.Scanning.{texts_seen, words_of, number_said, tile_said, slot_said, port_said, operands_said, events_with, event_named, event_said};
+ghost use Rattle.core_isa.specs.LineSeen.{texts_seen};
+ghost use Rattle.report_text.specs.Scanning.{words_of, number_said, tile_said, slot_said, port_said, operands_said, events_with, event_named, event_said};
 
 use crate::Event;
 use crate::operands::{LAST_SLOT, LAST_TILE, Operands};
@@ -19,7 +20,7 @@ const WORDS: usize = 6;
 const PORTS: [Port; 5] = [Port::L, Port::E, Port::W, Port::N, Port::S];
 
 // The ports by which something leaves a router.
-const SIDES: [Port; 4] = [Port::E, Port::W, Port::N, Port::S];
+const OUTPUT_PORTS: [Port; 4] = [Port::E, Port::W, Port::N, Port::S];
 
 /// What stands before the line's first space, or the whole line.
 pub(crate) fn first_word(line: &[u8]) -> &[u8]
@@ -81,7 +82,7 @@ fn read_operands(words: &[&[u8]]) -> Option<Operands>
             r: tile_in(r)?,
             port: port_in(&PORTS, port)?,
             slot: slot_in(slot)?,
-            out: port_in(&SIDES, out)?,
+            out: port_in(&OUTPUT_PORTS, out)?,
         }),
         _ => None,
     }

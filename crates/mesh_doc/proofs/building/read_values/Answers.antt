@@ -1,3 +1,4 @@
+use Rattle.std.specs.List.{range_with_len}
 use Rattle.std.proofs.Common.{◌≡◌, ◌<◌, [], length, sym, ◌∙◌, ap, arith}
 use Rattle.std.proofs.lemmas.List.{length-map}
 use Rattle.std.proofs.lemmas.Result.{err_from_is_err_and}
@@ -6,9 +7,8 @@ use Rattle.doc_text.specs.declared.key.Key.TheVariants.{Posts, Controllers, Memo
 use Rattle.mesh_doc.specs.Tables.{value}
 use Rattle.mesh_doc.specs.Values.{repeated}
 use Rattle.mesh_doc.specs.Faults.{mesh_table, tiles_described, out_of_range, controllers_twice, cores_twice, bad_programs}
-use Rattle.mesh_doc.specs.Reading.{below}
 use Rattle.mesh_doc.specs.Said.{Says, count_of}
-use Rattle.mesh_doc.proofs.Placing.{length-below}
+use Rattle.std.proofs.lemmas.List.FromFn.{length-range_with_len}
 use Rattle.mesh_doc.proofs.Distinct.{AreTiles-tiles, ArePosts-windows, few_words}
 use Rattle.mesh_doc.proofs.Described.{count_said, nothing_mapped, in_ranges, in_controllers, in_core_tiles, in_programs, no_fault, ended, read_is}
 use Rattle.mesh_doc.proofs.building.read_values.Goals as goal
@@ -69,7 +69,7 @@ document_of-requires-clause-words c =
 pub document_of-requires-clause-programs : goal.document_of-requires-clause-programs
 document_of-requires-clause-programs c =
     let count = c.tiles.result in
-    ap length c.in_ok-programs.ensures.programs ∙ length-map (below count) _ ∙ length-below count ∙ c.tiles.ensures.tiles
+    ap length c.in_ok-programs.ensures.programs ∙ length-map (range_with_len 0 count) _ ∙ length-range_with_len 0 count ∙ c.tiles.ensures.tiles
 
 pub document_of-requires-clause-posts : goal.document_of-requires-clause-posts
 document_of-requires-clause-posts c =

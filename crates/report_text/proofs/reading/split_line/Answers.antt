@@ -2,8 +2,9 @@
 use Rattle.std.proofs.Common.{rules, tests, ◌∙◌, sym}
 use Rattle.std.proofs.lemmas.Iterator.{YieldsList-from_slice}
 use Rattle.std.proofs.lemmas.Iterator.Search.{position_from_yields_List}
-use Rattle.report_text.specs.Lines.{is_line_feed}
-use Rattle.report_text.proofs.Fronts.{front_is, whole_is, back_is, nothing_is}
+use Rattle.core_isa.specs.Lines.{is_line_feed}
+use Rattle.core_isa.proofs.Scanning.{front_is, whole_is}
+use Rattle.report_text.proofs.Fronts.{back_is, nothing_is}
 use Rattle.report_text.proofs.reading.split_line.Goals as goal
 
 pub returns-in-Some-clause-line : goal.returns-in-Some-clause-line

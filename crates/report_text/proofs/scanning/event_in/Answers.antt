@@ -1,6 +1,7 @@
 -- The words that the code splits are those of the line.
 use Rattle.std.proofs.Common.{sym, ap, ◌∙◌}
-use Rattle.report_text.specs.Scanning.{texts_seen, event_said}
+use Rattle.core_isa.specs.LineSeen.{texts_seen}
+use Rattle.report_text.specs.Scanning.{event_said}
 use Rattle.report_text.proofs.EventLines.{too_many, line-event_said, event_said-line}
 use Rattle.report_text.proofs.Numbers.{none_some}
 use Rattle.report_text.proofs.scanning.event_in.Goals as goal

@@ -3,7 +3,7 @@ use Rattle.std.proofs.Common.{rules, tests, ◌∙◌, sym}
 use Rattle.std.proofs.lemmas.Iterator.{YieldsList-from_slice}
 use Rattle.std.proofs.lemmas.Iterator.Search.{position_from_yields_List}
 use Rattle.report_text.specs.Lines.{is_space}
-use Rattle.report_text.proofs.Fronts.{front_is, whole_is}
+use Rattle.core_isa.proofs.Scanning.{front_is, whole_is}
 use Rattle.report_text.proofs.scanning.first_word.Goals as goal
 
 pub returns-in-Some : goal.returns-in-Some

@@ -4,7 +4,7 @@ use Rattle.std.specs.Slice.Iter.{split_rest, split_done, split_callee}
 use Rattle.std.proofs.lemmas.Iterator.Splits.{YieldsList-from_slice_split}
 use Rattle.std.proofs.lemmas.Bool.{eqb-true}
 use Rattle.report_text.specs.Lines.{is_space}
-use Rattle.report_text.specs.Scanning.{texts_seen}
+use Rattle.core_isa.specs.LineSeen.{texts_seen}
 use Rattle.report_text.proofs.Fronts.{parts-end, parts-more}
 use Rattle.report_text.proofs.scanning.split_words.Goals as goal
 
