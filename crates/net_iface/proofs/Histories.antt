@@ -185,7 +185,7 @@ opening_is chip opened = record {
 
 -- ---- the laws
 
-tiles_some : (chip : Chip) → HasTiles chip.grid → 0 < tile_count chip
+pub tiles_some : (chip : Chip) → HasTiles chip.grid → 0 < tile_count chip
 tiles_some chip has = product_positive chip.grid.cols chip.grid.rows has.some_column has.some_row
 
 history_is : (chip : Chip) (calls : List NetworkCall) (h : History) → NothingStands → EntersAlone → HopsWithNone → ServesNamed → HasTiles chip.grid → history_of chip (opening_history chip) calls ≡ Some h → IsHistory chip h

@@ -198,12 +198,17 @@ module _ (laws : PartLaws) (chip : Chip) where
               omega (arith, b.delivered),
             )
 
+    -- what a tile delivers is the next request of the order
+    pub delivers_next : ServesNamed → (t : ℕ) (i : Interface) (q : Request) → slice_get old.interfaces t ≡ Some i → after_delivery chip old t ≡ Some (q, new) → slice_get old.ordered i.delivered ≡ Some q
+    delivers_next named t i q there is =
+        let d = delivery_of chip old new t q accords (some_tiles t i there) named is in
+        ap (λ (j : Interface). slice_get old.ordered j.delivered) (same_Some i d.was (sym there ∙ d.there)) ∙ d.next
+
     pub fits_delivered : ServesNamed → (t : ℕ) (q : Request) → after_delivery chip old t ≡ Some (q, new) → NetworkFits chip new
     fits_delivered named t q is =
         let step = request_delivered chip old new t q is in
         let d = delivery_of chip old new t q accords (some_tiles t step.was step.sets.there) named is in
-        let same : d.was ≡ step.was = same_Some d.was step.was (sym d.there ∙ step.sets.there) in
-        let next : slice_get old.ordered step.was.delivered ≡ Some q = ap (λ (i : Interface). slice_get old.ordered i.delivered) (sym same) ∙ d.next in
+        let next = delivers_next named t step.was q step.sets.there is in
         let served = laws.serves chip.grid chip.vcs old.copies new.copies t step.name q (copies_of chip old fits) step.serves in
         fits_of new (still_accords chip old new t q accords d) served.holds (subst (WindowsFit chip) (sym step.windows) fits.windows)
         (owed_delivered chip old new fits.interfaces t step.was q step.sets next served.owes fits.owed)

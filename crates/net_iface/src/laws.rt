@@ -1,9 +1,11 @@
-ghost use Rattle.std.specs.Prelude.{◌≡◌, ◌<◌, ℕ, List, Some};
+ghost use Rattle.std.specs.Prelude.{◌≡◌, ◌<◌, ℕ, List, Some, slice_get};
 ghost use Rattle.mesh_gen.specs.declared.kind.Kind.{Kind};
 ghost use Rattle.mesh_gen.specs.declared.port.Port.{Port};
 ghost use Rattle.mesh_gen.specs.declared.request.Request.{Request};
-ghost use Rattle.chip_model.specs.Chip.{Chip};
-ghost use Rattle.chip_model.specs.OrderedNetwork.{OrderedNetwork, opening_network, after_inject, after_request_post, after_network_tick, after_vector_take, after_copy_hop, after_delivery};
+ghost use Rattle.mesh_gen.specs.Routes.{HasTiles};
+ghost use Rattle.chip_model.specs.Chip.{Chip, tile_count};
+ghost use Rattle.chip_model.specs.NetworkFits.{NetworkFits};
+ghost use Rattle.chip_model.specs.OrderedNetwork.{OrderedNetwork, Interface, opening_network, after_inject, after_request_post, after_network_tick, after_vector_take, after_copy_hop, after_delivery};
 ghost use Rattle.net_iface.specs.NetworkHolds.{OrderedNetworkHolds};
 ghost use Rattle.net_iface.specs.NetworkRuns.{NetworkCall, History, opening_history, history_of};
 ghost use Rattle.net_iface.specs.NetworkSteps.{RequestMade, RequestPosted, NetworkTicked, VectorTaken, CopyMoved, RequestDelivered};
@@ -29,6 +31,13 @@ pub fn network_laws()
         → after_delivery chip old t ≡ Some (q, new) → OrderedNetworkHolds chip new }
     ensures every { (chip : Chip) (calls : List NetworkCall) (h : History) → 0 < chip.window
         → history_of chip (opening_history chip) calls ≡ Some h → OrderedNetworkHolds chip h.network }
+
+    // What a tile delivers is the next request of the order, and each request of the order is a tile's.
+    ensures next { (chip : Chip) (old new : OrderedNetwork) (t : ℕ) (interface : Interface) (q : Request) → NetworkFits chip old
+        → slice_get old.interfaces t ≡ Some interface → after_delivery chip old t ≡ Some (q, new)
+        → slice_get old.ordered interface.delivered ≡ Some q }
+    ensures inside { (chip : Chip) (net : OrderedNetwork) (place : ℕ) (q : Request) → HasTiles chip.grid → NetworkFits chip net
+        → slice_get net.ordered place ≡ Some q → q.source < tile_count chip }
 {
     copies_laws();
     owed_laws();

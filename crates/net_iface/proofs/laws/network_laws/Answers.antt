@@ -1,5 +1,9 @@
 use Rattle.net_iface.specs.NetworkRuns.{opening_history}
+use Rattle.chip_model.specs.Chip.{tile_count}
 use Rattle.net_iface.proofs.LawsOfParts.{PartLaws}
+use Rattle.net_iface.proofs.Entries.{source_below}
+use Rattle.net_iface.proofs.Histories.{tiles_some}
+use Rattle.net_iface.proofs.NetworkKept.{delivers_next}
 use Rattle.net_iface.proofs.NetworkLaws.{holds_opening, holds_made, holds_posted, holds_ticked, holds_taken, holds_moved, holds_delivered, holds_later}
 use Rattle.net_iface.proofs.laws.network_laws.Goals as goal
 
@@ -44,3 +48,9 @@ pub returns-clause-every : goal.returns-clause-every
 returns-clause-every c = λ chip calls h long is.
     holds_later (laws c) chip c.step_laws.ensures.enters c.step_laws.ensures.hops c.step_laws.ensures.serves calls (opening_history chip) h
     (holds_opening (laws c) chip c.step_laws.ensures.opened c.owed_laws.ensures.absent long) is
+
+pub returns-clause-next : goal.returns-clause-next
+returns-clause-next c = λ chip old new t interface q fits there is. delivers_next (laws c) chip old new fits c.step_laws.ensures.serves t interface q there is
+
+pub returns-clause-inside : goal.returns-clause-inside
+returns-clause-inside c = λ chip net place q tiles fits there. source_below (tile_count chip) net.ordered net.windows.closed place q (tiles_some chip tiles) fits.ordered there
