@@ -17,6 +17,8 @@ pub mod DataSends
 pub mod WaitingGets
 pub mod Carried
 pub mod DataKept
+pub mod PendingAnswers
+pub mod OpenLater
 pub mod UndeliveredRequests
 pub mod NewWriteBacks
 pub mod MemoryReached
