@@ -1,26 +1,23 @@
 -- A home delivers a request: its record stays what the order says of it.
-use Rattle.std.proofs.Common.{◌≡◌, ◌≢◌, ℕ, zero, suc, ◌+◌, ◌-◌, ◌<◌, ◌≤◌, Bool, true, false, cond, List, [], ◌∷◌, ◌++◌, length, map, take, append-nil, refl, sym, ◌∙◌, ap, subst, arith, inl, inr, Option, Some, None}
-use Rattle.std.specs.Prelude.{◌==◌, ◌&&◌, ◌||◌, not, slice_get}
-use Rattle.std.proofs.lemmas.Bool.{both_ways, false≢true, cases_lt, eq-eqb, not-false}
+use Rattle.std.proofs.Common.{◌≡◌, ℕ, ◌+◌, ◌-◌, ◌<◌, ◌≤◌, Bool, true, false, cond, List, [], ◌∷◌, ◌++◌, length, take, append-nil, refl, sym, ◌∙◌, ap, subst, arith, Option, Some, None}
+use Rattle.std.specs.Prelude.{◌||◌, not, slice_get}
+use Rattle.std.proofs.lemmas.Bool.{not-false}
 use Rattle.std.proofs.lemmas.List.{map-append}
 use Rattle.std.proofs.lemmas.Option.{slice_get_within}
-use Rattle.mesh_gen.specs.declared.kind.Kind.{Kind}
-use Rattle.mesh_gen.specs.declared.kind.Kind.TheVariants.{GetS, GetM, PutM}
 use Rattle.mesh_gen.specs.declared.request.Request.{Request}
 use Rattle.chip_model.specs.declared.owner.Owner.{Owner}
 use Rattle.chip_model.specs.declared.owner.Owner.TheVariants.{Memory, Tile}
 use Rattle.chip_model.specs.declared.waiting.Waiting.{Waiting}
 use Rattle.chip_model.specs.Misses.{is_getm}
-use Rattle.chip_model.specs.Records.{LineRecord, from_memory, awaiting_write_back, owned_by_tile, answered_by}
+use Rattle.chip_model.specs.Records.{LineRecord}
 use Rattle.chip_model.specs.ChipState.{ChipState}
-use Rattle.chip_model.specs.Ownership.{owner, is_tile}
-use Rattle.chip_model.specs.Bookkeeping.{is_get, between, up_to_getm, waiting_for}
-use Rattle.chip_model.specs.Suppliers.{writes_back_as, writes_back, last_written_back, next_written_back, has_reached_memory, has_come}
-use Rattle.chip_laws.proofs.OrderLists.{between_none}
+use Rattle.chip_model.specs.Ownership.{owner}
+use Rattle.chip_model.specs.Bookkeeping.{between, up_to_getm, waiting_for}
+use Rattle.chip_model.specs.Suppliers.{writes_back, last_written_back, next_written_back, has_reached_memory, has_come}
 use Rattle.chip_laws.proofs.SupplyAccounts.{is_memory}
-use Rattle.supply_laws.proofs.LastPlaces.{LastIs, NextIs, last_unique, last_more_no, last_more_yes, next_unique, next_more_no, next_here}
-use Rattle.supply_laws.proofs.WriteBackPlaces.{gets_for, any_writes, gets_more, owner_since, up_to_none, up_to_one, last_of_all, last_before, next_after}
-use Rattle.supply_laws.proofs.ReachedWords.{reached_earlier, not_reached, fresh_at, waiters_since, waiters_at, LineHolds}
+use Rattle.supply_laws.proofs.LastPlaces.{LastIs, last_unique, last_more_no, last_more_yes, next_unique, next_more_no, next_here}
+use Rattle.supply_laws.proofs.WriteBackPlaces.{gets_for, any_writes, gets_more, owner_since, up_to_none, up_to_one, last_before, next_after}
+use Rattle.supply_laws.proofs.ReachedWords.{fresh_at, waiters_since, waiters_at, LineHolds}
 
 -- those that wait, with one get more after gets that read
 up_to_last : (xs : List Request) (q : Request) → any_writes xs ≡ false → up_to_getm (xs ++ q ∷ []) ≡ xs ++ q ∷ []

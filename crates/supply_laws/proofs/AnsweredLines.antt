@@ -1,7 +1,7 @@
 -- The table of a home at the delivery of a request: the record of its line stays what the order says of it.
-use Rattle.std.proofs.Common.{◌≡◌, ℕ, ◌+◌, ◌<◌, ◌≤◌, Bool, true, false, cond, List, [], ◌∷◌, ◌++◌, length, take, refl, sym, ◌∙◌, ap, subst, arith, inl, inr, Option, Some, None}
+use Rattle.std.proofs.Common.{◌≡◌, ℕ, ◌+◌, ◌<◌, ◌≤◌, Bool, true, false, cond, List, [], ◌∷◌, ◌++◌, length, take, refl, sym, ◌∙◌, ap, subst, arith, Option, Some, None}
 use Rattle.std.specs.Prelude.{◌==◌, ◌&&◌, not, slice_get}
-use Rattle.std.proofs.lemmas.Bool.{both_ways, false≢true, eq-eqb, eqb-true, ne_eqb, eqb-false}
+use Rattle.std.proofs.lemmas.Bool.{eq-eqb}
 use Rattle.std.proofs.lemmas.Option.{slice_get_within}
 use Rattle.mesh_gen.specs.declared.kind.Kind.{Kind}
 use Rattle.mesh_gen.specs.declared.kind.Kind.TheVariants.{GetS, GetM, PutM}
@@ -13,13 +13,13 @@ use Rattle.chip_model.specs.Records.{LineRecord, Answer, from_memory, awaiting_w
 use Rattle.chip_model.specs.ChipState.{ChipState}
 use Rattle.chip_model.specs.Ownership.{owner, is_tile}
 use Rattle.chip_model.specs.Bookkeeping.{is_get, between, up_to_getm, waiting_for}
-use Rattle.chip_model.specs.Suppliers.{writes_back_as, writes_back, last_written_back, next_written_back, has_reached_memory, has_come}
+use Rattle.chip_model.specs.Suppliers.{writes_back_as, writes_back, last_written_back, has_reached_memory, has_come}
 use Rattle.chip_laws.proofs.OrderLists.{between_none}
 use Rattle.chip_laws.proofs.SupplyAccounts.{is_memory}
 use Rattle.supply_laws.proofs.LastPlaces.{LastIs, IsLastOf}
 use Rattle.supply_laws.proofs.WriteBackPlaces.{gets_for, last_of_all}
-use Rattle.supply_laws.proofs.ReachedWords.{IsDue, reached_earlier, not_reached, fresh_at, waiters_since, waiters_at, LineHolds}
-use Rattle.supply_laws.proofs.AnsweredHomes.{last_below, last_passed, last_here, next_is_here, next_none, next_passed, fresh_passed, waits_passed, none_since, get_elsewhere, get_waits_here, line_passed}
+use Rattle.supply_laws.proofs.ReachedWords.{reached_earlier, not_reached, fresh_at, waiters_since, waiters_at, LineHolds}
+use Rattle.supply_laws.proofs.AnsweredHomes.{last_below, last_here, next_is_here, next_none, fresh_passed, waits_passed, none_since, get_elsewhere, get_waits_here, line_passed}
 
 -- no request after a place writes the line back
 abbrev pub NoneLater : List Request → ℕ → ℕ → Type 0
@@ -116,7 +116,8 @@ module _ (s : ChipState) (line n : ℕ) (q : Request) (r : LineRecord) (at : sli
   -- it is the last one of all
   due_last : (place : ℕ) → prefix ≡ Some place → has_reached_memory s line place ≡ false → NoneLater ordered line n
   due_last place place_is late k above below =
-      let last : IsLastOf (writes_back line ordered) 0 (length ordered) place = subst (LastIs (writes_back line ordered) 0 (length ordered)) (not_reached s line place late).last (last_of_all line ordered) in
+      let last : IsLastOf (writes_back line ordered) 0 (length ordered) place =
+      subst (LastIs (writes_back line ordered) 0 (length ordered)) (not_reached s line place late).last (last_of_all line ordered) in
       let earlier = last_below line n place ordered within place_is in
       last.after k (omega (arith, earlier, above)) (omega (arith, below))
 

@@ -1,5 +1,5 @@
 -- Data that comes to a tile is what its demand waits for.
-use Rattle.std.proofs.Common.{◌≡◌, ℕ, ◌+◌, ◌≤◌, refl, sym, ◌∙◌, ap, subst, arith, Option, Some, None, List}
+use Rattle.std.proofs.Common.{◌≡◌, ℕ, ◌≤◌, refl, sym, ◌∙◌, ap, subst, arith, Option, Some, None, List}
 use Rattle.std.specs.Prelude.{is_some, slice_get}
 use Rattle.std.proofs.lemmas.Option.{same_Some}
 use Rattle.mesh_gen.specs.declared.request.Request.{Request}
@@ -15,7 +15,7 @@ use Rattle.reply_net.proofs.Accounts.{received_is}
 use Rattle.chip_laws.specs.Meetings.{ArrivalsFit}
 use Rattle.chip_laws.proofs.OrderFrames.{holds_at}
 use Rattle.chip_laws.proofs.SupplyRoom.{one_answer}
-use Rattle.supply_laws.specs.OpenGets.{WaitsFor, DataAnswersGets}
+use Rattle.supply_laws.specs.OpenGets.{DataAnswersGets}
 use Rattle.supply_laws.proofs.GetPlaces.{open_place}
 use Rattle.supply_laws.proofs.OpenGets.{open_get}
 use Rattle.supply_laws.proofs.DataKept.{carried_counts}

@@ -158,7 +158,7 @@ queued_counts chip s u place unit msg at there has =
     let part = sum_by-part (promised_by msg.to) s.units u unit at in
     omega (arith, one, part)
 
-carried_counts : (chip : Chip) (s : ChipState) (router port slot : ℕ) (msg : Msg) → at s.replies router port slot ≡ Some msg → msg.kind ≡ Data → 1 ≤ answers_to_come chip s msg.to
+pub carried_counts : (chip : Chip) (s : ChipState) (router port slot : ℕ) (msg : Msg) → at s.replies router port slot ≡ Some msg → msg.kind ≡ Data → 1 ≤ answers_to_come chip s msg.to
 carried_counts chip s router port slot msg there has =
     let one : count_if (is_data_for msg.to msg) ≡ 1 = ap count_if (is_for msg has) in
     let sum = weigh_at (λ r p i m. count_if (is_data_for msg.to m)) s.replies router port slot msg there in

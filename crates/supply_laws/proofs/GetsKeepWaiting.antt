@@ -1,23 +1,20 @@
 -- No get for a line is complete after a GetM for it that is not, or after the last request that wrote the line back as long as
 -- its words have not come: every event keeps that.
-use Rattle.std.proofs.Common.{◌≡◌, ℕ, ◌+◌, ◌<◌, ◌≤◌, true, refl, sym, ◌∙◌, ap, subst, arith, inl, inr, Option, Some, None, List, ◌++◌, length}
+use Rattle.std.proofs.Common.{◌≡◌, ℕ, ◌<◌, ◌≤◌, true, sym, ◌∙◌, ap, subst, arith, inl, inr, Some, List, ◌++◌, length}
 use Rattle.std.specs.Prelude.{slice_get}
 use Rattle.std.specs.List.{count_by}
 use Rattle.std.proofs.lemmas.Bool.{cases_lt}
 use Rattle.std.proofs.lemmas.List.{length-append}
-use Rattle.mesh_gen.specs.declared.kind.Kind.TheVariants.{GetM}
 use Rattle.mesh_gen.specs.declared.request.Request.{Request}
 use Rattle.order_tracker.specs.Order.{upwards}
 use Rattle.doc_text.specs.Doc.{Doc}
 use Rattle.chip_model.specs.Chip.{chip_of}
-use Rattle.chip_model.specs.OrderedNetwork.{after_network_tick}
 use Rattle.chip_model.specs.Units.{UnitState}
 use Rattle.chip_model.specs.ChipState.{ChipState, opening}
-use Rattle.chip_model.specs.Bookkeeping.{is_get, is_get_of}
+use Rattle.chip_model.specs.Bookkeeping.{is_get}
 use Rattle.chip_model.specs.Suppliers.{writes_back, last_written_back, place_of_get, IsOpen, GetsWait}
 use Rattle.chip_model.specs.ChipInvariant.{ProtocolHolds}
 use Rattle.chip_laws.specs.DocFits.{DocFits}
-use Rattle.chip_laws.specs.EventSteps.{ChangesNetwork}
 use Rattle.chip_laws.proofs.Options.{none_some}
 use Rattle.chip_laws.proofs.OrderFrames.{known_of}
 use Rattle.chip_laws.proofs.Supplied.{Grows}
@@ -29,7 +26,7 @@ use Rattle.supply_laws.proofs.LastPlaces.{IsLastOf, LastIs, last_unique, count_n
 use Rattle.supply_laws.proofs.WriteBackPlaces.{writes_back_grown, last_of_all}
 use Rattle.supply_laws.proofs.WordsDue.{due, due_grown}
 use Rattle.supply_laws.proofs.NewWriteBacks.{OrdersMore}
-use Rattle.supply_laws.proofs.WriteBackEvents.{StaysHome, DeliversAt, ReturnsAt, BackEvent, stays, orders, delivers, returns}
+use Rattle.supply_laws.proofs.WriteBackEvents.{BackEvent, stays, orders, delivers, returns}
 use Rattle.supply_laws.proofs.ReachedWords.{IsDue}
 use Rattle.supply_laws.proofs.LaterBacks.{IsOpenWrite}
 use Rattle.supply_laws.proofs.GetPlaces.{open_place, undelivered_open}
@@ -49,8 +46,8 @@ gets_wait_opened d line = record {
 }
 
 -- ---- what is due does not grow where nothing is ordered
-none_more : (s new : ChipState) (more : List Request) (line : ℕ) → new.network.ordered ≡ s.network.ordered → OrdersMore s new more → due new line ≤ due s line
-none_more s new more line order is =
+none_more : (d : Doc) (s new : ChipState) (more : List Request) (line : ℕ) → new.network.ordered ≡ s.network.ordered → OrdersMore d s new more → due new line ≤ due s line
+none_more d s new more line order is =
     let same : length (s.network.ordered ++ more) ≡ length s.network.ordered = ap length (sym is.grows.order ∙ order) in
     let none : length more ≡ 0 = omega (arith, same, length-append s.network.ordered more) in
     let sum = due_grown s new more line is.grows is.within in
@@ -60,7 +57,7 @@ none_more s new more line order is =
 
 due_less : (d : Doc) (s new : ChipState) (line : ℕ) → new.network.ordered ≡ s.network.ordered → BackEvent d s new → due new line ≤ due s line
 due_less d s new line order (stays is) = omega (arith, is.due line)
-due_less d s new line order (orders more is) = none_more s new more line order is
+due_less d s new line order (orders more is) = none_more d s new more line order is
 due_less d s new line order (delivers is) = omega (arith, is.due line)
 due_less d s new line order (returns is) = omega (arith, is.due line)
 

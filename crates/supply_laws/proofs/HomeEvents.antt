@@ -1,36 +1,43 @@
 -- The records of every home are what the order says of them, after each event.
-use Rattle.std.proofs.Common.{◌≡◌, ◌≢◌, ℕ, zero, suc, ◌+◌, ◌<◌, ◌≤◌, Bool, true, false, cond, List, [], ◌∷◌, ◌++◌, length, take, set, refl, sym, ◌∙◌, ap, subst, arith, inl, inr, ◌⊎◌, Option, Some, None}
+use Rattle.std.proofs.Common.{◌≡◌, ◌≢◌, ℕ, zero, suc, ◌+◌, ◌<◌, Bool, true, false, cond, List, [], ◌∷◌, take, set, refl, sym, ◌∙◌, ap, subst, arith, inl, inr, ◌⊎◌, Option, Some, None}
 use Rattle.std.specs.Prelude.{◌==◌, ◌&&◌, not, slice_get, slice_index_or, is_some}
 use Rattle.std.proofs.lemmas.Bool.{cases_eq, both_ways, ne_eqb, eq-eqb}
 use Rattle.std.proofs.lemmas.Option.{same_Some}
 use Rattle.mesh_gen.specs.declared.request.Request.{Request}
 use Rattle.mesh_gen.specs.declared.msg.Msg.{Msg}
 use Rattle.mesh_gen.specs.declared.msg_kind.MsgKind.{MsgKind}
-use Rattle.mesh_gen.specs.declared.msg_kind.MsgKind.TheVariants.{Data, Back}
+use Rattle.mesh_gen.specs.declared.msg_kind.MsgKind.TheVariants.{Back}
 use Rattle.mesh_gen.specs.Ports.{count_if}
+use Rattle.report_text.specs.declared.event.Event.{Event}
 use Rattle.doc_text.specs.Doc.{Doc}
 use Rattle.chip_model.specs.declared.waiting.Waiting.{Waiting}
 use Rattle.chip_model.specs.Chip.{Chip, chip_of, home}
 use Rattle.chip_model.specs.Records.{LineRecord, Records, answered_by, answered_at, answered, returned, returned_at, back_arrived}
-use Rattle.chip_model.specs.Node.{Node, is_back, arrived_as, node_after_request}
-use Rattle.chip_model.specs.Units.{UnitState}
+use Rattle.chip_model.specs.Node.{Node, is_back, node_after_request}
+use Rattle.chip_model.specs.Units.{UnitState, Behaviour}
 use Rattle.chip_model.specs.ChipState.{ChipState}
+use Rattle.chip_model.specs.Events.{step}
+use Rattle.chip_model.specs.BehaviourLaws.{KeepsLaws}
 use Rattle.chip_model.specs.NetworkShape.{GoesTo}
 use Rattle.chip_model.specs.Ownership.{owner, is_tile, delivered_to}
 use Rattle.chip_model.specs.Bookkeeping.{is_get}
 use Rattle.chip_model.specs.ChipInvariant.{ProtocolHolds}
-use Rattle.chip_model.specs.Suppliers.{is_back_for, writes_back_as, writes_back, last_written_back, RecordsAreFresh, WaitersAreGets, ReachesMemory, GetsWait}
+use Rattle.chip_model.specs.Suppliers.{is_back_for, writes_back_as, writes_back, last_written_back, RecordsAreFresh, WaitersAreGets, ReachesMemory}
+use Rattle.reply_net.proofs.Accounts.{Nearer}
 use Rattle.chip_laws.specs.DocFits.{DocFits}
+use Rattle.chip_laws.specs.Meetings.{UnitsFit}
+use Rattle.chip_laws.proofs.EventSteps.{event_does}
+use Rattle.chip_laws.proofs.Deliveries.{deliveries_fit}
 use Rattle.chip_laws.proofs.UnitFrames.{each_unit, same_units}
 use Rattle.chip_laws.proofs.OrderFrames.{known_of}
 use Rattle.chip_laws.proofs.SuppliedEvents.{Holds, unit_holds}
 use Rattle.supply_laws.specs.OpenGets.{NoneWritesBackBefore}
+use Rattle.supply_laws.specs.HomeParts.{WordsReachMemory, HomesHold}
 use Rattle.supply_laws.proofs.WriteBackPlaces.{gets_for}
 use Rattle.supply_laws.proofs.WordsDue.{due}
-use Rattle.supply_laws.proofs.NewWriteBacks.{OrdersMore}
 use Rattle.supply_laws.proofs.MemoryReached.{reaches_still, reaches_grown}
-use Rattle.supply_laws.proofs.WriteBackEvents.{SameHome, WasHome, StaysHome, DeliversAt, ReturnsAt, BackEvent, stays, orders, delivers, returns}
-use Rattle.supply_laws.proofs.ReachedWords.{fresh_at, waiters_at, waiters_since, LineHolds, fresh_is, waiters_is, line_stays, line_grown}
+use Rattle.supply_laws.proofs.WriteBackEvents.{SameHome, DeliversAt, ReturnsAt, BackEvent, stays, orders, delivers, returns, back_event}
+use Rattle.supply_laws.proofs.ReachedWords.{LineHolds, fresh_is, waiters_is, line_stays, line_grown}
 use Rattle.supply_laws.proofs.AnsweredHomes.{line_passed}
 use Rattle.supply_laws.proofs.AnsweredLines.{Meets, line_answered}
 use Rattle.supply_laws.proofs.ReturnedHomes.{line_returned}
@@ -65,7 +72,8 @@ home_stays s new node order same is line r at = line_stays s new line node.deliv
 abbrev IsSet : Records → ℕ → LineRecord → ℕ → LineRecord → Type 0
 IsSet records m left line r = ((line ≡ m) × (r ≡ left)) ⊎ ((line ≢ m) × (slice_index_or records line None ≡ Some r))
 
-is_set : (records : Records) (m line : ℕ) (old left r : LineRecord) → slice_index_or records m None ≡ Some old → slice_index_or (set records m (Some left)) line None ≡ Some r → IsSet records m left line r
+is_set : (records : Records) (m line : ℕ) (old left r : LineRecord) → slice_index_or records m None ≡ Some old
+    → slice_index_or (set records m (Some left)) line None ≡ Some r → IsSet records m left line r
 is_set [] m line old left r there at = cc
 is_set (first ∷ records) zero zero old left r there at = inl (refl, sym (same_Some left r at))
 is_set (first ∷ records) zero (suc line) old left r there at = inr ((λ same. absurd (omega (arith, same))), at)
@@ -213,7 +221,7 @@ homes_after d s new fits holds none (stays e) = λ t unit at.
     home_by new was.was.node unit.node was.same (home_stays s new was.was.node e.order e.due (home_before d s holds t was.was was.at))
 homes_after d s new fits holds none (orders more e) =
     same_units (λ t unit. HomeHolds new unit.node) s new e.grows.units (λ t unit at line r there.
-    line_grown s new more e line (holds.backs line) (holds.wait line) unit.node.delivered r (known_of d s holds t unit at).within (home_before d s holds t unit at line r there))
+    line_grown d s new more e line (holds.backs line) (holds.wait line) unit.node.delivered r (known_of d s holds t unit at).within (home_before d s holds t unit at line r there))
 homes_after d s new fits holds none (delivers e) =
     each_unit (λ t unit. HomeHolds new unit.node) s new e.tile e.unit e.after e.changes
     (home_stays s new e.after.node e.order e.due (delivered_home d s new fits holds none e (home_before d s holds e.tile e.unit e.changes.at)))
@@ -226,6 +234,18 @@ homes_after d s new fits holds none (returns e) =
 -- the words that are written back reach memory
 pub memory_after : (d : Doc) (s new : ChipState) → ProtocolHolds d s → BackEvent d s new → (line : ℕ) → ReachesMemory new line
 memory_after d s new holds (stays e) line = reaches_still s new line e.order (omega (arith, e.due line)) e.counts (holds.backs line)
-memory_after d s new holds (orders more e) line = reaches_grown s new more e line (holds.wait line) (holds.backs line)
+memory_after d s new holds (orders more e) line = reaches_grown d s new more e line (holds.wait line) (holds.backs line)
 memory_after d s new holds (delivers e) line = reaches_still s new line e.order (omega (arith, e.due line)) e.counts (holds.backs line)
 memory_after d s new holds (returns e) line = reaches_still s new line e.order (omega (arith, e.due line)) e.counts (holds.backs line)
+
+-- ---- a step of the chip
+pub reaches_after : Nearer → (b : Behaviour) (laws : KeepsLaws b) (d : Doc) (s new : ChipState) (event : Event) → DocFits d → ProtocolHolds d s → UnitsFit b laws s
+    → step b (chip_of d) s event ≡ Some new → WordsReachMemory new
+reaches_after nearer b laws d s new event fits holds fit e =
+    memory_after d s new holds (back_event nearer b laws d s new event fits holds fit (deliveries_fit d s fits holds) (event_does b (chip_of d) s new event e))
+
+pub homes_hold_after : Nearer → (b : Behaviour) (laws : KeepsLaws b) (d : Doc) (s new : ChipState) (event : Event) → DocFits d → ProtocolHolds d s → UnitsFit b laws s → NoneWritesBackBefore s
+    → step b (chip_of d) s event ≡ Some new → HomesHold new
+homes_hold_after nearer b laws d s new event fits holds fit none e =
+    let after = homes_after d s new fits holds none (back_event nearer b laws d s new event fits holds fit (deliveries_fit d s fits holds) (event_does b (chip_of d) s new event e)) in
+    record { fresh = λ t unit at. fresh_of new unit.node (after t unit at); waiters = λ t unit at. waiters_of new unit.node (after t unit at) }

@@ -2,7 +2,7 @@
 use Rattle.std.proofs.Common.{◌≡◌, ◌≢◌, ℕ, zero, suc, ◌+◌, ◌<◌, ◌≤◌, Bool, true, false, cond, List, [], ◌∷◌, refl, sym, ◌∙◌, ap, subst, arith, inl, inr, Option, Some, None}
 use Rattle.std.specs.Prelude.{filter, nat_le}
 use Rattle.std.specs.List.{count_by}
-use Rattle.std.proofs.lemmas.Bool.{cases_lt, cases_eq, both_ways, leb-true, leb-false}
+use Rattle.std.proofs.lemmas.Bool.{cases_lt, cases_eq, cases_order, both_ways, leb-true, leb-false}
 use Rattle.mesh_gen.specs.Ports.{count_if}
 use Rattle.order_tracker.specs.Order.{upwards}
 use Rattle.chip_model.specs.Suppliers.{last, next_from}
@@ -32,9 +32,6 @@ first_or_after P start k above here rest = elim (cases_lt start k) [
   | inl beyond ↦ rest (omega (arith, beyond))
   | inr within ↦ (let same : start ≡ k = omega (arith, within, above) in subst P same here)
 ]
-
-last-some : (x y : ℕ) (rest : List ℕ) (place : ℕ) → last (y ∷ rest) ≡ Some place → last (x ∷ y ∷ rest) ≡ Some place
-last-some x y rest place is = is
 
 none_last : {P : Type 0} (y : ℕ) (rest : List ℕ) → last (y ∷ rest) ≡ None → P
 none_last y [] is = cc
@@ -75,16 +72,11 @@ pub last_unique : (p : ℕ → Bool) (start count : ℕ) (one other : Option ℕ
 last_unique p start count None None is also = refl
 last_unique p start count None (Some place) is also = absurd (both_ways (p place) (is place also.from also.below) also.passes)
 last_unique p start count (Some place) None is also = absurd (both_ways (p place) (also place is.from is.below) is.passes)
-last_unique p start count (Some one) (Some other) is also = elim (cases_eq one other) [
+last_unique p start count (Some one) (Some other) is also = elim (cases_order one other) [
   | inl same ↦ ap (λ (k : ℕ). Some k) same
-  | inr away ↦ elim (cases_lt one other) [
-    | inl before ↦ absurd (later_not p start count one other is also before)
-    | inr after ↦ absurd (later_not p start count other one also is (apart one other after away))
-  ]
+  | inr (inl before) ↦ absurd (later_not p start count one other is also before)
+  | inr (inr after) ↦ absurd (later_not p start count other one also is after)
 ]
-  where
-    apart : (a b : ℕ) → b ≤ a → a ≢ b → b < a
-    apart a b le ne = elim (cases_lt b a) [ inl less ↦ less | inr more ↦ absurd (ne (omega (arith, le, more))) ]
 
 -- tests that agree below the bound
 pub last_agrees : (p q : ℕ → Bool) (start count : ℕ) (o : Option ℕ) → ((k : ℕ) → start ≤ k → k < start + count → p k ≡ q k) → LastIs p start count o → LastIs q start count o
@@ -97,23 +89,17 @@ last_agrees p q start count (Some place) same is = record {
 }
 
 -- one place more
+at_end : (p : ℕ → Bool) (n k : ℕ) → p n ≡ false → (k < n → p k ≡ false) → k < n + 1 → p k ≡ false
+at_end p n k fails rest below = elim (cases_lt k n) [ inl less ↦ rest less | inr more ↦ (let same : n ≡ k = omega (arith, more, below) in subst (λ j. p j ≡ false) same fails) ]
+
 pub last_more_no : (p : ℕ → Bool) (n : ℕ) (o : Option ℕ) → p n ≡ false → LastIs p 0 n o → LastIs p 0 (n + 1) o
 last_more_no p n None fails is = λ k above below. at_end p n k fails (λ less. is k above (omega (arith, less))) (omega (arith, below))
-  where
-    at_end : (p : ℕ → Bool) (n k : ℕ) → p n ≡ false → (k < n → p k ≡ false) → k < n + 1 → p k ≡ false
-    at_end p n k fails rest below = elim (cases_lt k n) [ inl less ↦ rest less | inr more ↦ (let same : n ≡ k = omega (arith, more, below) in subst (λ j. p j ≡ false) same fails) ]
 last_more_no p n (Some place) fails is = record {
   from = is.from;
   below = omega (arith, is.below);
   passes = is.passes;
-  after = λ k above below. at_end k above (omega (arith, below));
+  after = λ k above below. at_end p n k fails (λ less. is.after k above (omega (arith, less))) (omega (arith, below));
 }
-  where
-    at_end : (k : ℕ) → place < k → k < n + 1 → p k ≡ false
-    at_end k above below = elim (cases_lt k n) [
-      | inl less ↦ is.after k above (omega (arith, less))
-      | inr more ↦ (let same : n ≡ k = omega (arith, more, below) in subst (λ j. p j ≡ false) same fails)
-    ]
 
 pub last_more_yes : (p : ℕ → Bool) (n : ℕ) → p n ≡ true → LastIs p 0 (n + 1) (Some n)
 last_more_yes p n holds = record { from = omega arith; below = omega arith; passes = holds; after = λ k above below. absurd (omega (arith, above, below)) }
@@ -183,16 +169,11 @@ pub next_unique : (p : ℕ → Bool) (bound from : ℕ) (one other : Option ℕ)
 next_unique p bound from None None is also = refl
 next_unique p bound from None (Some place) is also = absurd (both_ways (p place) (is place also.beyond also.below) also.passes)
 next_unique p bound from (Some place) None is also = absurd (both_ways (p place) (also place is.beyond is.below) is.passes)
-next_unique p bound from (Some one) (Some other) is also = elim (cases_eq one other) [
+next_unique p bound from (Some one) (Some other) is also = elim (cases_order one other) [
   | inl same ↦ ap (λ (k : ℕ). Some k) same
-  | inr away ↦ elim (cases_lt one other) [
-    | inl before ↦ absurd (sooner_not p bound from one other is also before)
-    | inr after ↦ absurd (sooner_not p bound from other one also is (apart one other after away))
-  ]
+  | inr (inl before) ↦ absurd (sooner_not p bound from one other is also before)
+  | inr (inr after) ↦ absurd (sooner_not p bound from other one also is after)
 ]
-  where
-    apart : (a b : ℕ) → b ≤ a → a ≢ b → b < a
-    apart a b le ne = elim (cases_lt b a) [ inl less ↦ less | inr more ↦ absurd (ne (omega (arith, le, more))) ]
 
 -- from one place later
 pub next_more_no : (p : ℕ → Bool) (bound n : ℕ) (o : Option ℕ) → p n ≡ false → NextIs p bound n o → NextIs p bound (n + 1) o
@@ -200,15 +181,12 @@ next_more_no p bound n None fails is = λ k above below. is k (omega (arith, abo
 next_more_no p bound n (Some place) fails is = record {
   beyond = elim (cases_eq n place) [
     | inl same ↦ absurd (both_ways (p place) (subst (λ j. p j ≡ false) same fails) is.passes)
-    | inr away ↦ not_same n place is.beyond away
+    | inr away ↦ omega (arith, is.beyond, away)
   ];
   below = is.below;
   passes = is.passes;
   before = λ k above less. is.before k (omega (arith, above)) less;
 }
-  where
-    not_same : (a b : ℕ) → a ≤ b → a ≢ b → a + 1 ≤ b
-    not_same a b le ne = elim (cases_lt a b) [ inl less ↦ omega (arith, less) | inr more ↦ absurd (ne (omega (arith, le, more))) ]
 
 pub next_here : (p : ℕ → Bool) (bound n : ℕ) → n < bound → p n ≡ true → NextIs p bound n (Some n)
 next_here p bound n less holds = record { beyond = omega arith; below = less; passes = holds; before = λ k above below. absurd (omega (arith, above, below)) }
@@ -232,10 +210,7 @@ count_only p start (suc count) place above below holds others = elim (cases_eq s
       omega (arith, one, rest, count_by-cons p start (upwards (start + 1) count)))
   | inr away ↦ (
       let first : count_if (p start) ≡ 0 = ap count_if (others start (omega arith) (omega arith) away) in
-      let rest = count_only p (start + 1) count place (next start place above away) (omega (arith, below)) holds
+      let rest = count_only p (start + 1) count place (omega (arith, above, away)) (omega (arith, below)) holds
       (λ k beyond within. others k (omega (arith, beyond)) (omega (arith, within))) in
       omega (arith, first, rest, count_by-cons p start (upwards (start + 1) count)))
 ]
-  where
-    next : (a b : ℕ) → a ≤ b → a ≢ b → a + 1 ≤ b
-    next a b le ne = elim (cases_lt a b) [ inl less ↦ omega (arith, less) | inr more ↦ absurd (ne (omega (arith, le, more))) ]

@@ -1,15 +1,12 @@
--- After a GetM that is not complete no request writes its line back; and a GetM that memory supplies is one, where its
--- home delivers it.
-use Rattle.std.proofs.Common.{◌≡◌, ◌≢◌, ℕ, ◌+◌, ◌<◌, ◌≤◌, Bool, true, false, List, length, take, refl, sym, ◌∙◌, ap, subst, arith, inl, inr, Some, None}
-use Rattle.std.specs.Prelude.{◌==◌, ◌&&◌, nat_le, slice_get, slice_index_or, is_some}
+-- After a GetM that is not complete no request writes its line back.
+use Rattle.std.proofs.Common.{◌≡◌, ℕ, ◌<◌, ◌≤◌, true, false, List, take, refl, sym, ◌∙◌, ap, subst, arith, inl, inr, Some, None}
+use Rattle.std.specs.Prelude.{◌==◌, nat_le, slice_get, slice_index_or, is_some}
 use Rattle.std.proofs.lemmas.Bool.{cases_lt, cases_eq, false_from_ne_true, le-leb, eqb-true, eq-eqb, and_from}
 use Rattle.std.proofs.lemmas.Option.{same_Some}
-use Rattle.mesh_gen.specs.declared.kind.Kind.{Kind}
-use Rattle.mesh_gen.specs.declared.kind.Kind.TheVariants.{GetM, PutM}
+use Rattle.mesh_gen.specs.declared.kind.Kind.TheVariants.{GetM}
 use Rattle.mesh_gen.specs.declared.request.Request.{Request}
 use Rattle.doc_text.specs.Doc.{Doc}
-use Rattle.chip_model.specs.declared.owner.Owner.{Owner}
-use Rattle.chip_model.specs.declared.owner.Owner.TheVariants.{Memory, Tile}
+use Rattle.chip_model.specs.declared.owner.Owner.TheVariants.{Memory}
 use Rattle.chip_model.specs.Chip.{Chip, chip_of, home}
 use Rattle.chip_model.specs.Records.{LineRecord}
 use Rattle.chip_model.specs.Units.{UnitState}
@@ -17,7 +14,7 @@ use Rattle.chip_model.specs.ChipState.{ChipState}
 use Rattle.chip_model.specs.Ownership.{owner}
 use Rattle.chip_model.specs.Bookkeeping.{is_get, is_get_of}
 use Rattle.chip_model.specs.ChipInvariant.{ProtocolHolds}
-use Rattle.chip_model.specs.Suppliers.{count_of, delivered_at, supplier, is_to_come_at, is_to_come, place_of_get, writes_back, GetsWait}
+use Rattle.chip_model.specs.Suppliers.{count_of, delivered_at, supplier, is_to_come_at, is_to_come, place_of_get, writes_back}
 use Rattle.chip_laws.specs.DocFits.{DocFits}
 use Rattle.chip_laws.proofs.RequestsInside.{tile_of, source_inside}
 use Rattle.chip_laws.proofs.SuppliedEvents.{Holds}
@@ -54,14 +51,11 @@ none_after_open d s line g fits holds none is place before = false_from_ne_true 
     | inr away ↦ (
         let later = from_later line g place s.network.ordered is.get is.at is.kind is.same before from in
         let tile = tile_of d s from.get.get.source holds (source_inside d s from.get.place from.get.get fits holds from.get.at) in
-        let opens = (holds.wait line).after_write g from.get.place is.get from.get.get is.unit (strictly g from.get.place later away) is.at is.kind is.same is.unit_at is.waits
+        let opens = (holds.wait line).after_write g from.get.place is.get from.get.get is.unit (omega (arith, later, away)) is.at is.kind is.same is.unit_at is.waits
         from.get.at (ap is_get from.get.kind) from.get.same tile.unit tile.unit_at in
         none from.get.place place from.get.get from.back.put tile.unit from.get.at tile.unit_at opens from.get.before from.back.at from.back.kind (sym from.get.source)
         (from.back.same ∙ sym from.get.same))
   ]
-    where
-      strictly : (a b : ℕ) → a ≤ b → a ≢ b → a < b
-      strictly a b le ne = elim (cases_lt a b) [ inl less ↦ less | inr more ↦ absurd (ne (omega (arith, le, more))) ]
 
 -- ---- a GetM at the home that supplies it
 pub supplied_here : (d : Doc) (s : ChipState) (u line : ℕ) (unit : UnitState) (q : Request) (r : LineRecord) → DocFits d → ProtocolHolds d s → (own : Holds d s u unit)

@@ -1,19 +1,17 @@
 -- The words of each request that writes a line back reach memory, by one message: where the order stays, and where it grows.
-use Rattle.std.proofs.Common.{◌≡◌, ◌≢◌, ℕ, ◌+◌, ◌<◌, ◌≤◌, Bool, true, false, List, ◌++◌, length, length-append, refl, sym, ◌∙◌, ap, subst, arith, inl, inr, Option, Some, None}
-use Rattle.std.specs.Prelude.{is_some, slice_get, nat_le, ◌&&◌}
-use Rattle.std.specs.List.{count_by}
+use Rattle.std.proofs.Common.{◌≡◌, ℕ, ◌+◌, ◌<◌, ◌≤◌, Bool, true, List, ◌++◌, length, length-append, sym, ◌∙◌, ap, subst, arith, inl, inr, Option, Some, None}
+use Rattle.std.specs.Prelude.{is_some, slice_get}
 use Rattle.std.proofs.lemmas.Bool.{both_ways, cases_lt, cases_eq, leb-true, le-leb, and_from}
 use Rattle.mesh_gen.specs.declared.request.Request.{Request}
-use Rattle.order_tracker.specs.Order.{upwards}
-use Rattle.chip_model.specs.Units.{UnitState}
+use Rattle.doc_text.specs.Doc.{Doc}
 use Rattle.chip_model.specs.ChipState.{ChipState}
-use Rattle.chip_model.specs.Suppliers.{count_of, delivered_at, writes_back, last_written_back, is_undelivered_at, is_undelivered, write_backs_to_come, ReachesMemory, GetsWait}
+use Rattle.chip_model.specs.Suppliers.{delivered_at, writes_back, last_written_back, is_undelivered_at, is_undelivered, ReachesMemory, GetsWait}
 use Rattle.net_iface.proofs.Named.{slice_get-append_left}
 use Rattle.chip_laws.proofs.WaitsToCome.{count_by-some}
-use Rattle.supply_laws.proofs.LastPlaces.{IsLastOf, LastIs, NonePasses, last_agrees, last_unique, count_none, count_only}
+use Rattle.supply_laws.proofs.LastPlaces.{LastIs, NonePasses, last_agrees, last_unique, count_none, count_only}
 use Rattle.supply_laws.proofs.WriteBackPlaces.{writes_back_grown, writes_back_within, last_of_all}
 use Rattle.supply_laws.proofs.WriteBackCounts.{waits_at, is_to_write_back, to_come_is}
-use Rattle.supply_laws.proofs.WordsDue.{due, due_grown}
+use Rattle.supply_laws.proofs.WordsDue.{due, units_counts, due_grown}
 use Rattle.supply_laws.proofs.NewWriteBacks.{OrdersMore, IsNewBack, NewBackIs, new_back, new_back_is}
 
 -- ---- the order stays
@@ -42,7 +40,7 @@ longer_none p n m (Some place) is none = record {
   after = λ k above below. elim (cases_lt k n) [ inl old ↦ is.after k above (omega (arith, old)) | inr new ↦ none k new (omega (arith, below)) ];
 }
 
-module _ (s new : ChipState) (more : List Request) (orders : OrdersMore s new more) (line : ℕ) where
+module _ (d : Doc) (s new : ChipState) (more : List Request) (orders : OrdersMore d s new more) (line : ℕ) where
   abbrev before : List Request
   before = s.network.ordered
 
@@ -71,7 +69,7 @@ module _ (s new : ChipState) (more : List Request) (orders : OrdersMore s new mo
   due_same none = omega (arith, due_grown s new more line orders.grows orders.within, count_none writes (length before) (length more) none)
 
   -- the new one is the last one, and its words are due
-  pub last_new : (place : ℕ) → IsNewBack s new more orders line place → last_written_back line new.network.ordered ≡ Some place
+  pub last_new : (place : ℕ) → IsNewBack d s new more orders line place → last_written_back line new.network.ordered ≡ Some place
   last_new place is = last_now (Some place) (record {
     from = omega arith;
     below = omega (arith, is.below);
@@ -79,15 +77,16 @@ module _ (s new : ChipState) (more : List Request) (orders : OrdersMore s new mo
     after = λ k above below. is.only k (omega (arith, is.above, above)) (omega (arith, below)) (λ same. absurd (omega (arith, same, above)));
   })
 
-  pub due_new : (place : ℕ) → IsNewBack s new more orders line place → due new line ≡ 1
+  pub due_new : (place : ℕ) → IsNewBack d s new more orders line place → due new line ≡ 1
   due_new place is =
       omega (arith, due_grown s new more line orders.grows orders.within, is.none_due, count_only writes (length before) (length more) place is.above is.below is.writes is.only)
 
   undelivered_before : (place : ℕ) → place < length before → is_undelivered new place ≡ true → is_undelivered s place ≡ true
   undelivered_before place inside waits =
       by_counts s new place (slice_get before place)
-      (λ v. let same : delivered_at new v ≡ delivered_at s v = ap (λ (us : List UnitState). count_of (slice_get us v)) orders.grows.units in omega (arith, same))
-      (sym (ap (λ (rs : List Request). is_undelivered_at new place (slice_get rs place)) orders.grows.order ∙ ap (is_undelivered_at new place) (slice_get-append_left before more place inside)) ∙ waits)
+      (λ v. let same = units_counts s new orders.grows.units v in omega (arith, same))
+      (sym (ap (λ (rs : List Request). is_undelivered_at new place (slice_get rs place)) orders.grows.order
+      ∙ ap (is_undelivered_at new place) (slice_get-append_left before more place inside)) ∙ waits)
 
   writes_now : (place : ℕ) → writes_back line new.network.ordered place ≡ true → writes place ≡ true
   writes_now place is = ap (λ (rs : List Request). writes_back line rs place) (sym orders.grows.order) ∙ is
@@ -108,8 +107,8 @@ module _ (s new : ChipState) (more : List Request) (orders : OrdersMore s new mo
       by (Some q) is = is
 
   pub reaches_grown : GetsWait s line → ReachesMemory s line → ReachesMemory new line
-  reaches_grown waits is = by (new_back s new more orders line) (new_back_is s new more orders line is waits) where
-    by : (o : Option ℕ) → NewBackIs s new more orders line o → ReachesMemory new line
+  reaches_grown waits is = by (new_back d s new more orders line) (new_back_is d s new more orders line is waits) where
+    by : (o : Option ℕ) → NewBackIs d s new more orders line o → ReachesMemory new line
     by None none = record {
       once = omega (arith, is.once, due_same none);
       last = λ some. ap is_some (last_same none) ∙ is.last (omega (arith, some, due_same none));

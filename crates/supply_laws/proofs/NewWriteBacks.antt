@@ -1,49 +1,46 @@
--- The order grows: at most one of its new requests writes a line back, and none does while words are due from an earlier one.
-use Rattle.std.proofs.Common.{◌≡◌, ◌≢◌, ℕ, ◌+◌, ◌<◌, ◌≤◌, Bool, true, false, List, [], ◌++◌, length, length-append, refl, sym, ◌∙◌, ap, subst, arith, inl, inr, Option, Some, None}
-use Rattle.std.specs.Prelude.{is_some, slice_get}
-use Rattle.std.specs.List.{count_by}
-use Rattle.std.proofs.lemmas.Bool.{both_ways, cases_lt, cases_eq, false≢true, false_from_ne_true}
-use Rattle.std.proofs.lemmas.Option.{same_Some, slice_get_within}
-use Rattle.mesh_gen.specs.declared.kind.Kind.{Kind}
+-- Of the requests by which the order grows at most one writes a line back, and none while words of the line are due.
+use Rattle.std.proofs.Common.{◌≡◌, ◌≢◌, ℕ, ◌+◌, ◌<◌, ◌≤◌, true, false, List, ◌++◌, length, refl, sym, ◌∙◌, ap, arith, inl, inr, Option, Some, None}
+use Rattle.std.specs.Prelude.{◌==◌, is_some, slice_get}
+use Rattle.std.proofs.lemmas.Bool.{eq-eqb, both_ways, cases_lt, cases_order, false≢true, false_from_ne_true}
+use Rattle.std.proofs.lemmas.Option.{same_Some}
 use Rattle.mesh_gen.specs.declared.kind.Kind.TheVariants.{GetM, PutM}
 use Rattle.mesh_gen.specs.declared.request.Request.{Request}
-use Rattle.order_tracker.specs.Order.{upwards}
 use Rattle.chip_model.specs.Misses.{Demand}
+use Rattle.chip_model.specs.OrderedNetwork.{Interface}
+use Rattle.chip_model.specs.NetworkFits.{InterfaceAgrees}
+use Rattle.chip_model.specs.Bookkeeping.{is_get, TileAgrees}
+use Rattle.doc_text.specs.Doc.{Doc}
+use Rattle.snoop_core.specs.Requests.{MeetsBack}
 use Rattle.chip_model.specs.Units.{UnitState}
 use Rattle.chip_model.specs.ChipState.{ChipState}
 use Rattle.chip_model.specs.NodeShape.{SideFits}
-use Rattle.chip_model.specs.Bookkeeping.{is_get, IsOrderedAt}
 use Rattle.chip_model.specs.Suppliers.{delivered_at, writes_back, last, last_written_back, ReachesMemory, GetsWait, IsOpen}
 use Rattle.net_iface.proofs.Named.{slice_get-append_left}
 use Rattle.chip_laws.proofs.Supplied.{Grows}
-use Rattle.supply_laws.proofs.LastPlaces.{IsLastOf, LastIs, NonePasses, passing, last_is, last_agrees, last_unique, count_none, count_only}
+use Rattle.supply_laws.proofs.LastPlaces.{LastIs, NonePasses, passing, last_is}
 use Rattle.supply_laws.proofs.OwnerGets.{OwnerGet, BackOf, owner_get, back_of}
-use Rattle.supply_laws.proofs.GetPlaces.{waits_at}
-use Rattle.supply_laws.proofs.WriteBackPlaces.{writes_back_grown, writes_back_within, last_of_all}
-use Rattle.supply_laws.proofs.WordsDue.{due, due_grown}
-use Rattle.supply_laws.proofs.UndeliveredRequests.{Asks, IsGetFor, IsPutFor, get_waits, put_waits, open_waits, not_both}
+use Rattle.supply_laws.proofs.Undelivered.{undelivered_get, undelivered_put}
+use Rattle.supply_laws.proofs.OpenGets.{open_get}
+use Rattle.supply_laws.proofs.Ticked.{TickedTile}
+use Rattle.supply_laws.proofs.WriteBackPlaces.{writes_back_grown, last_of_all}
+use Rattle.supply_laws.proofs.WordsDue.{due}
 
--- a tile whose requests stand in the order before and after it grows
-pub record TileAsks (before after : List Request) (t : ℕ) (unit : UnitState) : Type 0 where
-  pub made : List Request
-  pub tile : unit.node.tile ≡ t
-  pub within : unit.node.delivered ≤ length before
-  pub side : SideFits unit.node.chip unit.node.side
-  pub asks : Asks before t made unit.node
-  pub asks_after : Asks after t made unit.node
-  pub placed : (demand : Demand) (k : ℕ) → unit.node.side.misses.demand ≡ Some demand → demand.ordered ≡ Some k → IsOrderedAt before unit.node demand k
-
--- the unit of a tile, with that
-pub record TileOfSource (s : ChipState) (after : List Request) (t : ℕ) : Type 0 where
+-- a tile that agrees with the order before and after it grows
+pub record TileOfSource (d : Doc) (s new : ChipState) (t : ℕ) : Type 0 where
   pub unit : UnitState
   pub at : slice_get s.units t ≡ Some unit
-  pub asks : TileAsks s.network.ordered after t unit
+  pub within : unit.node.delivered ≤ length s.network.ordered
+  pub side : SideFits unit.node.chip unit.node.side
+  pub interface : Interface
+  pub agrees : InterfaceAgrees s.network t interface
+  pub tile : TileAgrees s.network t interface unit.node
+  pub ticked : TickedTile d new t unit
 
 -- the order grows by requests of tiles of the chip
-pub record OrdersMore (s new : ChipState) (more : List Request) : Type 0 where
+pub record OrdersMore (d : Doc) (s new : ChipState) (more : List Request) : Type 0 where
   pub grows : Grows s new more
   pub within : (v : ℕ) → delivered_at s v ≤ length s.network.ordered
-  pub sources : (k : ℕ) (q : Request) → slice_get (s.network.ordered ++ more) k ≡ Some q → TileOfSource s (s.network.ordered ++ more) q.source
+  pub sources : (k : ℕ) (q : Request) → slice_get (s.network.ordered ++ more) k ≡ Some q → TileOfSource d s new q.source
 
 -- ---- a request that writes back, and the GetM from which its tile owned the line
 pub record BackFrom (line place : ℕ) (ordered : List Request) : Type 0 where
@@ -60,52 +57,50 @@ getm_not_putm q r same get put = let kinds : GetM ≡ PutM = sym get ∙ ap (λ 
 
 -- it stands after each earlier request that writes the line back
 pub get_after_back : (line k place : ℕ) (ordered : List Request) → writes_back line ordered k ≡ true → k < place → (from : BackFrom line place ordered) → k < from.get.place
-get_after_back line k place ordered writes before from = elim (cases_lt k from.get.place) [
-  | inl less ↦ less
-  | inr above ↦ elim (cases_eq from.get.place k) [
-    | inl same ↦ (
-        let earlier = back_of line k ordered writes in
-        absurd (getm_not_putm from.get.get earlier.put (same_Some from.get.get earlier.put (sym from.get.at ∙ (ap (slice_get ordered) same ∙ earlier.at))) from.get.kind earlier.kind))
-    | inr away ↦ absurd (both_ways (writes_back line ordered k) (from.get.last.backs k (next from.get.place k above away) before) writes)
-  ]
+get_after_back line k place ordered writes before from = elim (cases_order k from.get.place) [
+  | inl same ↦ (
+      let earlier = back_of line k ordered writes in
+      absurd (getm_not_putm from.get.get earlier.put (same_Some from.get.get earlier.put (sym from.get.at ∙ (ap (slice_get ordered) (sym same) ∙ earlier.at))) from.get.kind earlier.kind))
+  | inr (inl less) ↦ less
+  | inr (inr more) ↦ absurd (both_ways (writes_back line ordered k) (from.get.last.backs k (omega (arith, more)) before) writes)
 ]
-  where
-    next : (a b : ℕ) → a ≤ b → a ≢ b → a + 1 ≤ b
-    next a b le ne = elim (cases_lt a b) [ inl less ↦ omega (arith, less) | inr more ↦ absurd (ne (omega (arith, le, more))) ]
-
--- ---- both its GetM and the write-back are undelivered: they would be for one line
-put_for : (line place : ℕ) (before after : List Request) (from : BackFrom line place after) (unit : UnitState) → TileAsks before after from.back.put.source unit → length before ≤ place
-    → IsPutFor unit.node.side.misses line
-put_for line place before after from unit is new =
-    subst (IsPutFor unit.node.side.misses) from.back.same
-    (put_waits after from.back.put.source is.made unit.node place from.back.put is.asks_after from.back.at refl (omega (arith, is.within, new)) from.back.kind)
-
-is_get_m : (q : Request) → q.kind ≡ GetM → is_get q.kind ≡ true
-is_get_m q is = ap is_get is
-
-new_get_not : (line place : ℕ) (before after : List Request) (from : BackFrom line place after) (unit : UnitState) → TileAsks before after from.back.put.source unit
-    → length before ≤ from.get.place → ⊥
-new_get_not line place before after from unit is new =
-    let asked : IsGetFor unit.node.side.misses line =
-    subst (IsGetFor unit.node.side.misses) from.get.same
-    (get_waits after from.back.put.source is.made unit.node from.get.place from.get.get is.asks_after from.get.at from.get.source (omega (arith, is.within, new)) (is_get_m from.get.get from.get.kind)) in
-    not_both unit.node.chip unit.node.side line is.side asked (put_for line place before after from unit is (omega (arith, new, from.get.before)))
 
 -- ---- what the order grows by
-module _ (s new : ChipState) (more : List Request) (orders : OrdersMore s new more) (line : ℕ) where
+module _ (d : Doc) (s new : ChipState) (more : List Request) (orders : OrdersMore d s new more) (line : ℕ) where
   abbrev before : List Request
   before = s.network.ordered
 
   abbrev after : List Request
   after = s.network.ordered ++ more
 
+  new_at : (k : ℕ) (q : Request) → slice_get after k ≡ Some q → slice_get new.network.ordered k ≡ Some q
+  new_at k q at = ap (λ (rs : List Request). slice_get rs k) orders.grows.order ∙ at
+
+  -- the write-back at a new place is the tile's
+  put_for : (place : ℕ) (from : BackFrom line place after) → (tile : TileOfSource d s new from.back.put.source) → length before ≤ place → MeetsBack tile.unit.node.side from.back.put
+  put_for place from tile above =
+      undelivered_put new.network from.back.put.source tile.ticked.interface tile.unit.node place from.back.put tile.ticked.agrees tile.ticked.node.agrees
+      (new_at place from.back.put from.back.at) refl (omega (arith, tile.within, above)) (ap is_get from.back.kind)
+
+  -- a tile does not wait for the line that it writes back
+  not_both : (unit : UnitState) (put : Request) (demand : Demand) → SideFits unit.node.chip unit.node.side → unit.node.side.misses.demand ≡ Some demand → demand.line ≡ line
+      → MeetsBack unit.node.side put → put.line ≡ line → ⊥
+  not_both unit put demand side stands of_line back put_line =
+      both_ways (demand.line == back.0.line) (side.apart demand back.0 stands back.1) (eq-eqb demand.line back.0.line (of_line ∙ sym (back.2.line ∙ put_line)))
+
+  -- both its GetM and the write-back are new
+  new_get_not : (place : ℕ) (from : BackFrom line place after) → TileOfSource d s new from.back.put.source → length before ≤ from.get.place → ⊥
+  new_get_not place from tile above =
+      let asked = undelivered_get new.network from.back.put.source tile.ticked.interface tile.unit.node from.get.place from.get.get tile.ticked.agrees tile.ticked.node.agrees
+      (new_at from.get.place from.get.get from.get.at) from.get.source (omega (arith, tile.within, above)) (ap is_get from.get.kind) in
+      not_both tile.unit from.back.put asked.0 tile.side asked.1 (asked.2.line ∙ from.get.same) (put_for place from tile (omega (arith, above, from.get.before))) from.back.same
+
   -- at most one new request writes the line back
   pub one_new : (k place : ℕ) → length before ≤ k → k < place → writes_back line after k ≡ true → writes_back line after place ≡ true → ⊥
   one_new k place above less first second =
       let from = back_from line place after second in
-      let tile = orders.sources place from.back.put from.back.at in
       let later = get_after_back line k place after first less from in
-      new_get_not line place before after from tile.unit tile.asks (omega (arith, above, later))
+      new_get_not place from (orders.sources place from.back.put from.back.at) (omega (arith, above, later))
 
   -- none does while words are due from an earlier one
   pub none_while_due : ReachesMemory s line → GetsWait s line → 0 < due s line → (place : ℕ) → length before ≤ place → writes_back line after place ≡ true → ⊥
@@ -121,15 +116,13 @@ module _ (s new : ChipState) (more : List Request) (orders : OrdersMore s new mo
           elim (cases_lt from.get.place (length before)) [
             | inl old ↦ (
                 let at : slice_get before from.get.place ≡ Some from.get.get = sym (slice_get-append_left before more from.get.place old) ∙ from.get.at in
-                let opens : IsOpen s from.get.place from.get.get =
-                waits.after_back g from.get.place from.get.get some last_here later at (is_get_m from.get.get from.get.kind) from.get.same in
+                let opens : IsOpen s from.get.place from.get.get = waits.after_back g from.get.place from.get.get some last_here later at (ap is_get from.get.kind) from.get.same in
                 let own : slice_get s.units from.get.get.source ≡ Some tile.unit = ap (slice_get s.units) from.get.source ∙ tile.at in
-                let asked : IsGetFor tile.unit.node.side.misses line =
-                subst (IsGetFor tile.unit.node.side.misses) from.get.same
-                (open_waits before from.back.put.source tile.asks.made tile.unit.node from.get.place from.get.get tile.asks.asks tile.asks.tile tile.asks.placed at from.get.source
-                (is_get_m from.get.get from.get.kind) (waits_at before tile.unit.node from.get.place (opens tile.unit own))) in
-                not_both tile.unit.node.chip tile.unit.node.side line tile.asks.side asked (put_for line place before after from tile.unit tile.asks above))
-            | inr late ↦ new_get_not line place before after from tile.unit tile.asks late
+                let asked = open_get s.network from.back.put.source tile.interface tile.unit.node from.get.place tile.agrees tile.tile tile.side (opens tile.unit own) in
+                let same : asked.get ≡ from.get.get = same_Some asked.get from.get.get (sym asked.at ∙ at) in
+                not_both tile.unit from.back.put asked.demand tile.side asked.stands (asked.line ∙ ap (λ (q : Request). q.line) same ∙ from.get.same)
+                (put_for place from tile above) from.back.same)
+            | inr late ↦ new_get_not place from tile late
           ]
 
   -- the one new request that writes the line back
@@ -147,9 +140,6 @@ module _ (s new : ChipState) (more : List Request) (orders : OrdersMore s new mo
   abbrev pub new_back : Option ℕ
   new_back = last (passing (writes_back line after) (length before) (length more))
 
-  zero_due : (n : ℕ) → (0 < n → ⊥) → n ≡ 0
-  zero_due n none = elim (cases_lt 0 n) [ inl some ↦ absurd (none some) | inr few ↦ omega (arith, few) ]
-
   pub new_back_is : ReachesMemory s line → GetsWait s line → NewBackIs new_back
   new_back_is reaches waits = by new_back (last_is (writes_back line after) (length before) (length more)) where
     by : (o : Option ℕ) → LastIs (writes_back line after) (length before) (length more) o → NewBackIs o
@@ -160,10 +150,7 @@ module _ (s new : ChipState) (more : List Request) (orders : OrdersMore s new mo
       writes = is.passes;
       only = λ k above below away. elim (cases_lt place k) [
         | inl later ↦ is.after k later below
-        | inr earlier ↦ false_from_ne_true (writes_back line after k) (λ writes. one_new k place above (strictly k place earlier away) writes is.passes)
+        | inr earlier ↦ false_from_ne_true (writes_back line after k) (λ writes. one_new k place above (omega (arith, earlier, away)) writes is.passes)
       ];
-      none_due = zero_due (due s line) (λ some. none_while_due reaches waits some place is.from is.passes);
+      none_due = let none : 0 < due s line → ⊥ = λ some. none_while_due reaches waits some place is.from is.passes in omega (arith, none);
     }
-      where
-        strictly : (a b : ℕ) → a ≤ b → a ≢ b → a < b
-        strictly a b le ne = elim (cases_lt a b) [ inl less ↦ less | inr more ↦ absurd (ne (omega (arith, le, more))) ]

@@ -1,10 +1,9 @@
 -- No event completes a get that stands after a GetM of its line that is not complete, or after the last request that wrote
 -- the line back as long as its words are to reach memory.
-use Rattle.std.proofs.Common.{◌≡◌, ◌≢◌, ℕ, ◌+◌, ◌<◌, ◌≤◌, Bool, true, false, cond, refl, sym, ◌∙◌, ap, subst, arith, inl, inr, ◌⊎◌, Option, Some, None, List, [], take, length}
+use Rattle.std.proofs.Common.{◌≡◌, ◌≢◌, ℕ, ◌+◌, ◌<◌, ◌≤◌, Bool, true, false, cond, refl, sym, ◌∙◌, ap, subst, arith, inl, inr, Option, Some, None, List, [], take, length}
 use Rattle.std.specs.Prelude.{◌==◌, ◌&&◌, is_some, filter, slice_get, slice_index_or}
 use Rattle.std.proofs.lemmas.Bool.{false≢true, both_ways, and_parts, cases_eq, cases_lt, eq-eqb, eqb-true}
 use Rattle.std.proofs.lemmas.Option.{same_Some, slice_get_within}
-use Rattle.mesh_gen.specs.declared.kind.Kind.TheVariants.{GetM, PutM}
 use Rattle.mesh_gen.specs.declared.request.Request.{Request}
 use Rattle.doc_text.specs.Doc.{Doc}
 use Rattle.chip_model.specs.declared.owner.Owner.{Owner}
@@ -17,18 +16,18 @@ use Rattle.chip_model.specs.Units.{UnitState}
 use Rattle.chip_model.specs.ChipState.{ChipState}
 use Rattle.chip_model.specs.Ownership.{owner, delivered_to}
 use Rattle.chip_model.specs.Bookkeeping.{is_get, between, up_to_getm, waiting_for}
-use Rattle.chip_model.specs.Suppliers.{count_of, delivered_at, supplier, places_in, writes_back, last_written_back, has_reached_memory, next_from, next_written_back, places_written_back, has_come, is_fresh_by, waiters_after, place_of_get, IsOpen}
+use Rattle.chip_model.specs.Suppliers.{count_of, delivered_at, supplier, places_in, writes_back, last_written_back, next_written_back, has_come, is_fresh_by, waiters_after, place_of_get, IsOpen}
 use Rattle.chip_model.specs.ChipInvariant.{ProtocolHolds}
 use Rattle.chip_laws.specs.DocFits.{DocFits}
 use Rattle.chip_laws.proofs.NodeMessages.{home_inside}
 use Rattle.chip_laws.proofs.OrderFrames.{holds_at, known_of}
-use Rattle.chip_laws.proofs.RequestsInside.{tile_of, source_inside, request_inside}
+use Rattle.chip_laws.proofs.RequestsInside.{tile_of, request_inside}
 use Rattle.supply_laws.specs.OpenGets.{NoneWritesBackBefore}
-use Rattle.supply_laws.proofs.LastPlaces.{IsLastOf, LastIs, last_unique, NextIs, next_unique}
+use Rattle.supply_laws.proofs.LastPlaces.{IsLastOf, LastIs, last_unique, next_unique}
 use Rattle.supply_laws.proofs.WriteBackPlaces.{last_of_all, last_before, next_after}
 use Rattle.supply_laws.proofs.ReachedWords.{IsDue, is_not_reached}
 use Rattle.supply_laws.proofs.LaterBacks.{IsOpenWrite, none_after_open}
-use Rattle.supply_laws.proofs.OwnerGets.{NoneFrom, OwnerGet, LastBack, owner_get, memory_owns, back_of}
+use Rattle.supply_laws.proofs.OwnerGets.{NoneFrom, OwnerGet, owner_get, memory_owns, back_of}
 use Rattle.supply_laws.proofs.PlaceEvents.{EndsBy}
 use Rattle.supply_laws.proofs.PendingAnswers.{pending, recorded_pending, waits_among, OpenAt, to_come, reads_between, tile_supplies, never_ends}
 

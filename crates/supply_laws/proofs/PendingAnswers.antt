@@ -1,9 +1,9 @@
 -- A get that stands after a GetM of its line that is not complete, or after a request whose words are to reach memory, is still
 -- to be supplied: so no data for it is here, and its tile does not own the line.
-use Rattle.std.proofs.Common.{◌≡◌, ◌≢◌, ℕ, zero, suc, ◌+◌, ◌-◌, ◌<◌, ◌≤◌, Bool, true, false, cond, refl, sym, ◌∙◌, ap, subst, arith, inl, inr, ◌⊎◌, Option, Some, None, List, [], ◌∷◌, take, drop, length}
-use Rattle.std.specs.Prelude.{◌==◌, ◌&&◌, not, is_some, filter, slice_get, slice_index_or}
+use Rattle.std.proofs.Common.{◌≡◌, ◌≢◌, ℕ, zero, suc, ◌+◌, ◌-◌, ◌<◌, ◌≤◌, Bool, true, false, cond, refl, sym, ◌∙◌, ap, subst, arith, inl, inr, Some, None, List, [], ◌∷◌, take, length}
+use Rattle.std.specs.Prelude.{◌==◌, ◌&&◌, not, filter, slice_get, slice_index_or}
 use Rattle.std.specs.List.{sum_by, count_by}
-use Rattle.std.proofs.lemmas.Bool.{false≢true, both_ways, cases_eq, cases_lt, eq-eqb, eqb-true, ne_eqb}
+use Rattle.std.proofs.lemmas.Bool.{false≢true, cases_lt, eq-eqb, eqb-true, ne_eqb}
 use Rattle.std.proofs.lemmas.Option.{same_Some, slice_get_within}
 use Rattle.mesh_gen.specs.declared.kind.Kind.{Kind}
 use Rattle.mesh_gen.specs.declared.kind.Kind.TheVariants.{GetS, GetM, PutM}
@@ -11,16 +11,15 @@ use Rattle.mesh_gen.specs.declared.request.Request.{Request}
 use Rattle.mesh_gen.specs.Ports.{count_if}
 use Rattle.order_tracker.specs.Order.{upwards}
 use Rattle.doc_text.specs.Doc.{Doc}
-use Rattle.chip_model.specs.declared.owner.Owner.{Owner}
-use Rattle.chip_model.specs.declared.owner.Owner.TheVariants.{Memory, Tile}
+use Rattle.chip_model.specs.declared.owner.Owner.TheVariants.{Tile}
 use Rattle.chip_model.specs.declared.waiting.Waiting.{Waiting}
-use Rattle.chip_model.specs.Chip.{Chip, chip_of, home}
+use Rattle.chip_model.specs.Chip.{Chip, chip_of}
 use Rattle.chip_model.specs.Misses.{Demand, is_getm}
 use Rattle.chip_model.specs.Records.{LineRecord}
 use Rattle.chip_model.specs.Units.{UnitState}
 use Rattle.chip_model.specs.ChipState.{ChipState}
 use Rattle.chip_model.specs.Ownership.{owner}
-use Rattle.chip_model.specs.Bookkeeping.{is_get, is_get_of, between, gets_of_others, up_to_getm, waiting_for}
+use Rattle.chip_model.specs.Bookkeeping.{is_get, between, up_to_getm, waiting_for}
 use Rattle.chip_model.specs.Suppliers.{count_of, delivered_at, supplier, is_to_come, places_in, places_after, places_at, promised_by, place_of_get, IsOpen}
 use Rattle.chip_model.specs.ChipInvariant.{ProtocolHolds}
 use Rattle.chip_laws.specs.DocFits.{DocFits}

@@ -1,6 +1,6 @@
--- Whether written-back words have reached memory, and what that says of a record at home: where the order stays or grows.
+-- Whether written-back words have reached memory, and what that says of a record, where the order stays and where it grows.
 use Rattle.std.proofs.Common.{◌≡◌, ◌≢◌, ℕ, ◌+◌, ◌<◌, ◌≤◌, Bool, true, false, cond, List, [], ◌++◌, length, length-append, take, refl, sym, ◌∙◌, ap, subst, arith, inl, inr, Option, Some, None}
-use Rattle.std.specs.Prelude.{◌==◌, ◌||◌, not, slice_get}
+use Rattle.std.specs.Prelude.{◌==◌, ◌||◌, not}
 use Rattle.std.proofs.lemmas.Bool.{both_ways, cases_lt, cases_eq, false≢true, or_left, or_right, or_parts, or_from, not-false, not_from_true, not_from_false, eq-eqb, eqb-true, eqb-false, ne_eqb}
 use Rattle.std.proofs.lemmas.List.{take-append-le}
 use Rattle.mesh_gen.specs.declared.request.Request.{Request}
@@ -9,15 +9,15 @@ use Rattle.chip_model.specs.declared.owner.Owner.TheVariants.{Memory, Tile}
 use Rattle.chip_model.specs.declared.waiting.Waiting.{Waiting}
 use Rattle.chip_model.specs.Records.{LineRecord}
 use Rattle.chip_model.specs.Node.{Node}
+use Rattle.doc_text.specs.Doc.{Doc}
 use Rattle.chip_model.specs.ChipState.{ChipState}
 use Rattle.chip_model.specs.Bookkeeping.{between, up_to_getm, waiting_for}
-use Rattle.chip_model.specs.Ownership.{delivered_to}
 use Rattle.chip_model.specs.Suppliers.{writes_back, places_written_back, next_from, last_written_back, is_last, has_reached_memory, next_written_back, has_come, is_fresh_by, waiters_after, ReachesMemory, GetsWait}
 use Rattle.chip_laws.proofs.OrderLists.{between_grown}
-use Rattle.supply_laws.proofs.LastPlaces.{LastIs, NextIs, NonePasses, next_unique}
+use Rattle.supply_laws.proofs.LastPlaces.{LastIs, NextIs, next_unique}
 use Rattle.supply_laws.proofs.WriteBackPlaces.{gets_for, writes_back_grown, writes_back_within, last_of_all, last_before, next_after}
 use Rattle.supply_laws.proofs.WordsDue.{due}
-use Rattle.supply_laws.proofs.NewWriteBacks.{OrdersMore, IsNewBack, NewBackIs, new_back, new_back_is}
+use Rattle.supply_laws.proofs.NewWriteBacks.{OrdersMore, NewBackIs, new_back, new_back_is}
 use Rattle.supply_laws.proofs.MemoryReached.{last_same, due_same, last_new, due_new}
 
 -- ---- whether the words of a write-back have reached memory
@@ -54,11 +54,8 @@ not_reached s line place is =
     let both = or_parts (not (is_last (last_written_back line s.network.ordered) place)) (due s line == 0) is in
     record {
       last = last_is_place (last_written_back line s.network.ordered) place (not-false (is_last (last_written_back line s.network.ordered) place) both.0);
-      some = positive (due s line) (eqb-false (due s line) 0 both.1);
+      some = let away = eqb-false (due s line) 0 both.1 in omega (arith, away);
     }
-  where
-    positive : (n : ℕ) → (n ≡ 0 → ⊥) → 0 < n
-    positive n away = elim (cases_lt 0 n) [ inl more ↦ more | inr none ↦ absurd (away (omega (arith, none))) ]
 
 pub is_not_reached : (s : ChipState) (line place : ℕ) → IsDue s line place → has_reached_memory s line place ≡ false
 is_not_reached s line place is =
@@ -127,7 +124,7 @@ line_stays s new line n r order same is = record {
 }
 
 -- ---- the order grows
-module _ (s new : ChipState) (more : List Request) (orders : OrdersMore s new more) (line : ℕ) (reaches : ReachesMemory s line) (waits : GetsWait s line) where
+module _ (d : Doc) (s new : ChipState) (more : List Request) (orders : OrdersMore d s new more) (line : ℕ) (reaches : ReachesMemory s line) (waits : GetsWait s line) where
   abbrev before : List Request
   before = s.network.ordered
 
@@ -136,13 +133,13 @@ module _ (s new : ChipState) (more : List Request) (orders : OrdersMore s new mo
 
   -- whether an old one's words have reached memory stays
   reached_before : (place : ℕ) → place < length before → has_reached_memory new line place ≡ has_reached_memory s line place
-  reached_before place inside = by (new_back s new more orders line) (new_back_is s new more orders line reaches waits) where
-    by : (o : Option ℕ) → NewBackIs s new more orders line o → has_reached_memory new line place ≡ has_reached_memory s line place
+  reached_before place inside = by (new_back d s new more orders line) (new_back_is d s new more orders line reaches waits) where
+    by : (o : Option ℕ) → NewBackIs d s new more orders line o → has_reached_memory new line place ≡ has_reached_memory s line place
     by None none =
-        ap (λ (o : Option ℕ). not (is_last o place) || (due new line == 0)) (last_same s new more orders line none)
-        ∙ ap (λ (n : ℕ). not (is_last (last_written_back line before) place) || (n == 0)) (due_same s new more orders line none)
+        ap (λ (o : Option ℕ). not (is_last o place) || (due new line == 0)) (last_same d s new more orders line none)
+        ∙ ap (λ (n : ℕ). not (is_last (last_written_back line before) place) || (n == 0)) (due_same d s new more orders line none)
     by (Some y) one =
-        let last = last_new s new more orders line y one in
+        let last = last_new d s new more orders line y one in
         reached_not_last new line place (λ x is same. absurd (later x (sym last ∙ is) same))
         ∙ sym (reached_none s line place one.none_due)
       where
@@ -151,16 +148,16 @@ module _ (s new : ChipState) (more : List Request) (orders : OrdersMore s new mo
 
   -- the words of a new one have not
   new_not_reached : (place : ℕ) → length before ≤ place → writes_back line after place ≡ true → has_reached_memory new line place ≡ false
-  new_not_reached place above writes = by (new_back s new more orders line) (new_back_is s new more orders line reaches waits) where
+  new_not_reached place above writes = by (new_back d s new more orders line) (new_back_is d s new more orders line reaches waits) where
     within : place < length before + length more
     within = subst (λ (n : ℕ). place < n) (length-append before more) (writes_back_within line after place writes)
 
-    by : (o : Option ℕ) → NewBackIs s new more orders line o → has_reached_memory new line place ≡ false
+    by : (o : Option ℕ) → NewBackIs d s new more orders line o → has_reached_memory new line place ≡ false
     by None none = absurd (both_ways (writes_back line after place) (none place above within) writes)
     by (Some y) one = elim (cases_eq place y) [
       | inl same ↦ is_not_reached new line place (record {
-        last = last_new s new more orders line y one ∙ ap (λ (k : ℕ). Some k) (sym same);
-        some = omega (arith, due_new s new more orders line y one);
+        last = last_new d s new more orders line y one ∙ ap (λ (k : ℕ). Some k) (sym same);
+        some = omega (arith, due_new d s new more orders line y one);
       })
       | inr away ↦ absurd (both_ways (writes_back line after place) (one.only place above within away) writes)
     ]
@@ -183,7 +180,8 @@ module _ (s new : ChipState) (more : List Request) (orders : OrdersMore s new mo
   longer : length before ≤ length after
   longer = omega (arith, length-append before more)
 
-  next_grown : (n : ℕ) (o : Option ℕ) → next_written_back s line n ≡ o → NextIs (writes_back line before) (length before) n o → has_come new line false (next_written_back new line n) ≡ has_come s line false o
+  next_grown : (n : ℕ) (o : Option ℕ) → next_written_back s line n ≡ o → NextIs (writes_back line before) (length before) n o
+      → has_come new line false (next_written_back new line n) ≡ has_come s line false o
   next_grown n (Some place) was is =
       ap (has_come new line false)
       (next_unique (writes_back line after) (length after) n (next_written_back new line n) (Some place) (next_now n) (record {

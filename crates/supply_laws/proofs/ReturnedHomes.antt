@@ -1,8 +1,8 @@
 -- Words that are written back come home: the record of their line is what the order says of it, and nobody waits there.
-use Rattle.std.proofs.Common.{◌≡◌, ℕ, ◌+◌, ◌<◌, ◌≤◌, Bool, true, false, cond, List, [], length, take, refl, sym, ◌∙◌, ap, subst, arith, inl, inr, Option, Some, None}
-use Rattle.std.specs.Prelude.{◌==◌, not, is_some}
+use Rattle.std.proofs.Common.{◌≡◌, ℕ, ◌<◌, ◌≤◌, Bool, true, false, cond, List, [], length, take, refl, sym, ◌∙◌, ap, arith, inl, inr, Option, Some, None}
+use Rattle.std.specs.Prelude.{not, is_some}
 use Rattle.std.specs.List.{list_any}
-use Rattle.std.proofs.lemmas.Bool.{both_ways, false≢true, cases_lt, not-false}
+use Rattle.std.proofs.lemmas.Bool.{both_ways, false≢true, cases_lt}
 use Rattle.mesh_gen.specs.declared.request.Request.{Request}
 use Rattle.chip_model.specs.declared.owner.Owner.{Owner}
 use Rattle.chip_model.specs.declared.owner.Owner.TheVariants.{Memory, Tile}
@@ -14,8 +14,8 @@ use Rattle.chip_model.specs.Ownership.{owner}
 use Rattle.chip_model.specs.Bookkeeping.{between, up_to_getm, waiting_for}
 use Rattle.chip_model.specs.Suppliers.{writes_back, places_written_back, next_from, last_written_back, next_written_back, has_reached_memory, has_come, ReachesMemory}
 use Rattle.chip_laws.proofs.SupplyAccounts.{is_memory}
-use Rattle.supply_laws.proofs.LastPlaces.{LastIs, IsLastOf, NextIs, last_unique}
-use Rattle.supply_laws.proofs.WriteBackPlaces.{gets_for, any_writes, any_waits, last_of_all, last_before, next_after}
+use Rattle.supply_laws.proofs.LastPlaces.{LastIs, NextIs, last_unique}
+use Rattle.supply_laws.proofs.WriteBackPlaces.{gets_for, any_waits, last_of_all, last_before, next_after}
 use Rattle.supply_laws.proofs.WordsDue.{due}
 use Rattle.supply_laws.proofs.ReachedWords.{reached_none, reached_earlier, is_not_reached, fresh_at, waiters_since, waiters_at, LineHolds}
 use Rattle.supply_laws.proofs.AnsweredHomes.{since_last, last_below}

@@ -31,7 +31,7 @@ pub record Ticked (d : Doc) (s new : ChipState) : Type 0 where
   pub units : new.units ≡ s.units
   pub tiles : (t : ℕ) (unit : UnitState) → slice_get s.units t ≡ Some unit → TickedTile d new t unit
 
-accords_of : (chip : Chip) (net : OrderedNetwork) → NetworkFits chip net → Accords chip net
+pub accords_of : (chip : Chip) (net : OrderedNetwork) → NetworkFits chip net → Accords chip net
 accords_of chip net fits = record {
   tiles = fits.interfaces;
   agree = λ t interface there.

@@ -1,6 +1,6 @@
 -- Those to whom a node sends data wait for a get of its line: the tile that it supplies, those that wait for its demand, and
 -- those that wait at its records.
-use Rattle.std.proofs.Common.{◌≡◌, ℕ, zero, suc, ◌+◌, ◌<◌, Bool, true, false, cond, refl, sym, ◌∙◌, ap, subst, arith, inl, Option, Some, None, List, [], ◌∷◌, take}
+use Rattle.std.proofs.Common.{◌≡◌, ℕ, suc, ◌+◌, ◌<◌, Bool, true, false, cond, refl, sym, ◌∙◌, ap, subst, arith, inl, Option, Some, None, List, [], ◌∷◌, take}
 use Rattle.std.specs.Prelude.{◌==◌, ◌&&◌, ◌||◌, not, filter, slice_get, slice_index_or}
 use Rattle.std.specs.List.{AllByRecursion}
 use Rattle.std.proofs.lemmas.Bool.{false≢true, and_parts, eqb-true}
@@ -16,7 +16,7 @@ use Rattle.chip_model.specs.Units.{UnitState}
 use Rattle.chip_model.specs.ChipState.{ChipState}
 use Rattle.chip_model.specs.Ownership.{owner, owns, delivered_to}
 use Rattle.chip_model.specs.Bookkeeping.{is_get, between, up_to_getm, waiting_for}
-use Rattle.chip_model.specs.Suppliers.{count_of, delivered_at, supplier, place_of_ordered, place_of_get, IsOpen, last_written_back, is_last, has_reached_memory, waiters_after, write_backs_in_flight, write_backs_to_come}
+use Rattle.chip_model.specs.Suppliers.{count_of, delivered_at, supplier, place_of_ordered, place_of_get, IsOpen, last_written_back, has_reached_memory, waiters_after}
 use Rattle.chip_model.specs.ChipInvariant.{ProtocolHolds}
 use Rattle.chip_laws.specs.DocFits.{DocFits}
 use Rattle.chip_laws.proofs.Each.{each_map, each_up_to_getm}

@@ -1,8 +1,7 @@
 -- How many messages are to bring a line's words to memory, on their way or still to be sent: over each kind of event.
-use Rattle.std.proofs.Common.{◌≡◌, ℕ, ◌+◌, ◌<◌, ◌≤◌, true, cond, List, ◌++◌, length, refl, sym, ◌∙◌, ap, subst, arith, inl, inr, Option, Some, None}
+use Rattle.std.proofs.Common.{◌≡◌, ℕ, ◌+◌, ◌≤◌, cond, List, ◌++◌, length, sym, ◌∙◌, ap, arith, Some, None}
 use Rattle.std.specs.Prelude.{◌==◌, slice_get}
 use Rattle.std.specs.List.{sum_by, count_by}
-use Rattle.std.proofs.lemmas.Bool.{cases_eq}
 use Rattle.mesh_gen.specs.declared.request.Request.{Request}
 use Rattle.mesh_gen.specs.declared.msg.Msg.{Msg}
 use Rattle.mesh_gen.specs.declared.port.Port.{Port}
@@ -21,7 +20,7 @@ use Rattle.reply_net.proofs.Steps.{total-take}
 use Rattle.snoop_core.specs.Requests.{OwnRequestFits}
 use Rattle.chip_laws.specs.EventSteps.{ChangesUnit}
 use Rattle.chip_laws.proofs.SupplyCounts.{sum_by-set}
-use Rattle.chip_laws.proofs.SupplyFrames.{count_here, count_there, same_counts, one_more}
+use Rattle.chip_laws.proofs.SupplyFrames.{count_here, same_counts, one_more}
 use Rattle.chip_laws.proofs.Supplied.{Grows}
 use Rattle.supply_laws.proofs.WriteBackCounts.{to_write_back, to_come_is, to_write_same, to_write_delivered, to_write_grown}
 use Rattle.supply_laws.proofs.WriteBackSends.{backs_in, delivered_backs, arrived_backs}
@@ -50,7 +49,7 @@ coming_same s new line order counts =
     ∙ to_write_same (delivered_at s) (delivered_at new) line s.network.ordered counts
     ∙ sym (to_come_is s line)
 
-units_counts : (s new : ChipState) → new.units ≡ s.units → (v : ℕ) → delivered_at new v ≡ delivered_at s v
+pub units_counts : (s new : ChipState) → new.units ≡ s.units → (v : ℕ) → delivered_at new v ≡ delivered_at s v
 units_counts s new units v = ap (λ (us : List UnitState). count_of (slice_get us v)) units
 
 -- ---- no unit changes

@@ -1,5 +1,4 @@
--- The requests that are still to write a line back, counted over the places of the order: one less where the tile of such
--- a request delivers it, and as many more as there are in what the order grows by.
+-- How many requests are still to write a line back: one less where a tile delivers one, more where the order grows by some.
 use Rattle.std.proofs.Common.{◌≡◌, ◌≢◌, ℕ, ◌+◌, ◌<◌, ◌≤◌, Bool, true, false, cond, List, [], ◌∷◌, ◌++◌, length, length-append, refl, sym, ◌∙◌, ap, arith, inl, inr, Option, Some, None}
 use Rattle.std.specs.Prelude.{◌==◌, ◌&&◌, nat_le, filter, slice_get}
 use Rattle.std.specs.List.{count_by}
@@ -103,7 +102,8 @@ pub to_write_delivered : (count new : ℕ → ℕ) (line : ℕ) (ordered : List 
 to_write_delivered count new line ordered u q delivers next =
     let place = count u in
     let within = slice_get_within ordered place q next in
-    let sum = count_by-one (is_to_write_back new line ordered) (is_to_write_back count line ordered) 0 (length ordered) place (omega arith) (omega (arith, within)) (λ k away. by k away (slice_get ordered k)) in
+    let sum = count_by-one (is_to_write_back new line ordered) (is_to_write_back count line ordered) 0 (length ordered) place (omega arith) (omega (arith, within))
+    (λ k away. by k away (slice_get ordered k)) in
     let was : count_if (is_to_write_back count line ordered place) ≡ count_if (writes_back line ordered place && nat_le (count q.source) place) =
     ap (λ o. count_if (writes_back line ordered place && waits_at count place o)) next in
     let is : count_if (is_to_write_back new line ordered place) ≡ count_if (writes_back line ordered place && nat_le (new q.source) place) =

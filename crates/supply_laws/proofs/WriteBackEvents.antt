@@ -1,9 +1,7 @@
--- What each event is to the words that are written back: it changes nothing of them, orders more requests, delivers one, or
--- brings words home.
-use Rattle.std.proofs.Common.{◌≡◌, ◌≢◌, ℕ, ◌+◌, ◌<◌, ◌≤◌, true, false, List, ◌++◌, length, set, refl, sym, ◌∙◌, ap, subst, arith, inl, inr, Option, Some, None}
-use Rattle.std.specs.Prelude.{◌==◌, ◌&&◌, take, slice_get}
+-- What an event does about written-back words: nothing, or it orders requests, delivers one, or brings words home.
+use Rattle.std.proofs.Common.{◌≡◌, ℕ, ◌+◌, ◌<◌, ◌≤◌, List, refl, sym, ◌∙◌, ap, subst, arith, inl, inr, Option, Some}
+use Rattle.std.specs.Prelude.{◌==◌, ◌&&◌, slice_get}
 use Rattle.std.proofs.lemmas.Bool.{cases_eq}
-use Rattle.std.proofs.lemmas.Option.{same_Some, slice_get_within}
 use Rattle.mesh_gen.specs.declared.request.Request.{Request}
 use Rattle.mesh_gen.specs.declared.msg.Msg.{Msg}
 use Rattle.mesh_gen.specs.declared.msg_kind.MsgKind.{MsgKind}
@@ -13,23 +11,18 @@ use Rattle.mesh_gen.specs.Ports.{count_if, port_number}
 use Rattle.report_text.specs.declared.event.Event.{Event}
 use Rattle.report_text.specs.declared.event.Event.TheVariants.{Tick, Core, Inject, Post, Take, Eject, Send, Hop, DataHop, DataEject}
 use Rattle.doc_text.specs.Doc.{Doc}
-use Rattle.chip_model.specs.Chip.{Chip, chip_of, tile_count}
-use Rattle.chip_model.specs.OrderedNetwork.{OrderedNetwork, Interface, after_network_tick}
+use Rattle.chip_model.specs.Chip.{chip_of, tile_count}
+use Rattle.chip_model.specs.OrderedNetwork.{OrderedNetwork, after_network_tick}
 use Rattle.chip_model.specs.Replies.{after_data_eject}
-use Rattle.chip_model.specs.Node.{Node, is_back, arrived_as, node_after_request, node_after_message, after_request_sent, after_message_sent, with_side}
+use Rattle.chip_model.specs.Node.{Node, is_back, arrived_as, node_after_request, node_after_message, after_request_sent, after_message_sent}
 use Rattle.chip_model.specs.Units.{UnitState, Acted, Behaviour}
 use Rattle.chip_model.specs.ChipState.{ChipState}
 use Rattle.chip_model.specs.BehaviourLaws.{KeepsLaws, Works}
 use Rattle.chip_model.specs.NodeShape.{IsCache}
-use Rattle.chip_model.specs.NetworkShape.{MessageFits, IsCopyOfMade}
-use Rattle.chip_model.specs.Bookkeeping.{count_by_tile}
-use Rattle.chip_model.specs.NetworkFits.{requests_of}
-use Rattle.chip_model.specs.CopiesOwed.{HasCopies}
+use Rattle.chip_model.specs.NetworkShape.{MessageFits}
 use Rattle.chip_model.specs.ChipInvariant.{ProtocolHolds}
-use Rattle.chip_model.specs.Suppliers.{count_of, delivered_at, is_back_for}
-use Rattle.net_iface.proofs.Places.{item_at}
+use Rattle.chip_model.specs.Suppliers.{delivered_at, is_back_for}
 use Rattle.net_iface.proofs.Entries.{source_below}
-use Rattle.net_iface.proofs.Accords.{Accords, IsMade}
 use Rattle.net_iface.proofs.Ticks.{keeps-tick}
 use Rattle.reply_net.proofs.Accounts.{Nearer, received_is, total-after_send, total-after_data_hop}
 use Rattle.snoop_core.proofs.Accesses.{accessed_frame}
@@ -42,15 +35,15 @@ use Rattle.chip_laws.proofs.SupplyFrames.{same_counts, one_more}
 use Rattle.chip_laws.proofs.SuppliedEvents.{Holds, unit_holds, delivered_within}
 use Rattle.chip_laws.proofs.TileAgreements.{keeps_of, own_request_fits}
 use Rattle.chip_laws.proofs.RequestsInside.{tile_of, tiles_some, request_inside}
-use Rattle.chip_laws.proofs.NetworkFrames.{ticked_views, injected_sets, delivered_sets}
+use Rattle.chip_laws.proofs.NetworkFrames.{injected_sets, delivered_sets}
 use Rattle.chip_laws.proofs.OrderGrows.{posted_order, taken_order, hopped_order}
-use Rattle.supply_laws.proofs.WordsDue.{due, backs_in_channels, channels_same, due_unchanged, due_stepped, due_delivered, due_comes}
-use Rattle.supply_laws.proofs.WriteBackSends.{backs_in, arrived_backs}
-use Rattle.supply_laws.proofs.UndeliveredRequests.{Asks, asks_grown}
-use Rattle.supply_laws.proofs.NewWriteBacks.{OrdersMore, TileOfSource}
+use Rattle.supply_laws.proofs.WordsDue.{due, backs_in_channels, channels_same, units_counts, due_unchanged, due_stepped, due_delivered, due_comes}
+use Rattle.supply_laws.proofs.WriteBackSends.{backs_in}
+use Rattle.supply_laws.proofs.Ticked.{accords_of, ticked}
+use Rattle.supply_laws.proofs.NewWriteBacks.{OrdersMore}
 
 -- ---- the four things that an event may be
--- a step that leaves the records and the queued words of a node
+-- a step that leaves the records of a node, and how many requests it has delivered
 pub record SameHome (old new : Node) : Type 0 where
   pub records : new.records ≡ old.records
   pub delivered : new.delivered ≡ old.delivered
@@ -100,7 +93,7 @@ pub record ReturnsAt (d : Doc) (s new : ChipState) : Type 0 where
 
 pub data BackEvent (d : Doc) (s new : ChipState) : Type 0 where
   stays : StaysHome s new → BackEvent d s new
-  orders : (more : List Request) → OrdersMore s new more → BackEvent d s new
+  orders : (more : List Request) → OrdersMore d s new more → BackEvent d s new
   delivers : DeliversAt d s new → BackEvent d s new
   returns : ReturnsAt d s new → BackEvent d s new
 
@@ -111,14 +104,11 @@ same_order s new same = ap (λ (net : OrderedNetwork). net.ordered) same
 counts_le : (s new : ChipState) → ((v : ℕ) → delivered_at new v ≡ delivered_at s v) → (v : ℕ) → delivered_at s v ≤ delivered_at new v
 counts_le s new same v = omega (arith, same v)
 
-units_counts : (s new : ChipState) → new.units ≡ s.units → (v : ℕ) → delivered_at s v ≤ delivered_at new v
-units_counts s new units = counts_le s new (λ v. ap (λ (us : List UnitState). count_of (slice_get us v)) units)
-
 no_unit : (d : Doc) (s new : ChipState) → new.units ≡ s.units → new.network.ordered ≡ s.network.ordered → ((line : ℕ) → backs_in_channels new line ≡ backs_in_channels s line) → BackEvent d s new
 no_unit d s new units order channels = stays (record {
   order = order;
   due = λ line. due_unchanged s new line units order (channels line);
-  counts = units_counts s new units;
+  counts = counts_le s new (units_counts s new units);
   homes = same_units (λ t unit. WasHome s t unit.node) s new units (λ t unit at. record { was = unit; at = at; same = record { records = refl; delivered = refl } });
 })
 
@@ -242,57 +232,25 @@ delivers_event d s new u unit after q holds c node order replies next line =
     })
 
 -- ---- a tick
-accords_of : (d : Doc) (s : ChipState) → ProtocolHolds d s → Accords (chip_of d) s.network
-accords_of d s holds = record {
-  tiles = holds.network.requests.interfaces;
-  agree = λ t interface at.
-      let is = holds.network.requests.agree t interface at in
-      record { within = is.within; made = is.made; in_place = is.ordered; posted_made = is.posted_made; posted = is.posted };
-  in_order = holds.network.requests.ordered;
-  made = λ q has. made_of q has;
-}
-  where
-    made_of : (q : Request) → HasCopies s.network.copies q → IsMade s.network.interfaces q
-    made_of q has =
-        let is = holds.network.requests.made has.router has.port has.slot has.there.copy has.there.stands in
-        subst (IsMade s.network.interfaces) has.there.is (record { interface = is.interface; source = is.source; made = is.made })
-
 tick_event : (d : Doc) (s new : ChipState) → DocFits d → ProtocolHolds d s → ChangesNetwork (after_network_tick (chip_of d) s.network) s new → BackEvent d s new
 tick_event d s new fits holds does =
-    let views = ticked_views (chip_of d) s.network new.network does.network in
-    let keeps = keeps-tick (chip_of d) s.network (accords_of d s holds) (tiles_some d fits) new.network does.network in
-    orders views.more (record {
-      grows = record { units = does.units; order = views.ordered; replies = does.replies };
+    let is = ticked d s new fits holds does in
+    let keeps = keeps-tick (chip_of d) s.network (accords_of (chip_of d) s.network holds.network.requests) (tiles_some d fits) new.network does.network in
+    orders is.more (record {
+      grows = record { units = is.units; order = is.order; replies = does.replies };
       within = delivered_within d s holds;
       sources = λ k q at.
-          let there : slice_get new.network.ordered k ≡ Some q = ap (λ (rs : List Request). slice_get rs k) views.ordered ∙ at in
-          let inside = source_below (tile_count (chip_of d)) new.network.ordered new.network.windows.closed k q (tiles_some d fits) keeps.accords.in_order there in
-          let t = q.source in
-          let tile = tile_of d s t holds inside in
-          let now = item_at new.network.interfaces t (omega (arith, inside, keeps.accords.tiles)) in
-          let was = views.interfaces t now.item now.there in
-          let same : was.was ≡ tile.interface = same_Some was.was tile.interface (sym was.at ∙ tile.interface_at) in
-          let made : now.item.made ≡ tile.interface.made = was.made ∙ ap (λ (i : Interface). i.made) same in
-          let agrees = tile.holds.node.agrees in
-          let within : tile.unit.node.delivered ≤ length s.network.ordered = omega (arith, agrees.counts, tile.agrees.within) in
-          let in_order = (keeps.accords.agree t now.item now.there).in_place in
-          let asks : Asks s.network.ordered t tile.interface.made tile.unit.node = record { in_order = tile.agrees.ordered; under_way = agrees.under_way } in
+          let there : slice_get new.network.ordered k ≡ Some q = ap (λ (rs : List Request). slice_get rs k) is.order ∙ at in
+          let tile = tile_of d s q.source holds (source_below (tile_count (chip_of d)) new.network.ordered new.network.windows.closed k q (tiles_some d fits) keeps.accords.in_order there) in
           record {
             unit = tile.unit;
             at = tile.unit_at;
-            asks = record {
-              made = tile.interface.made;
-              tile = agrees.tile;
-              within = within;
-              side = tile.holds.node.fits.side;
-              asks = asks;
-              asks_after = asks_grown s.network.ordered views.more t tile.interface.made tile.unit.node within
-                  (subst (λ (made : List Request). requests_of t (s.network.ordered ++ views.more)
-                  ≡ take (count_by_tile t (s.network.ordered ++ views.more)) made) made
-                  (subst (λ (rs : List Request). requests_of t rs
-                  ≡ take (count_by_tile t rs) now.item.made) views.ordered in_order)) asks;
-              placed = agrees.demand;
-            };
+            within = omega (arith, tile.holds.node.agrees.counts, tile.agrees.within);
+            side = tile.holds.node.fits.side;
+            interface = tile.interface;
+            agrees = tile.agrees;
+            tile = tile.holds.node.agrees;
+            ticked = is.tiles q.source tile.unit tile.unit_at;
           };
     })
 

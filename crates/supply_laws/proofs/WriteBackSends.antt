@@ -1,9 +1,8 @@
--- What a step of a node does to the words that it sends to memory: one message more where it delivers the request that
--- writes its line back.
-use Rattle.std.proofs.Common.{◌≡◌, ℕ, ◌+◌, Bool, true, false, cond, List, [], ◌∷◌, ◌++◌, take, refl, sym, ◌∙◌, ap, subst, arith, Option, Some, None}
+-- A node sends words to memory where it delivers the request that writes their line back, and by no other step.
+use Rattle.std.proofs.Common.{◌≡◌, ℕ, ◌+◌, Bool, true, false, cond, List, [], ◌∷◌, ◌++◌, refl, sym, ◌∙◌, ap, arith, Option, Some, None}
 use Rattle.std.specs.Prelude.{◌==◌, ◌&&◌, ◌||◌, not, slice_get, slice_index_or}
 use Rattle.std.specs.List.{count_by}
-use Rattle.std.proofs.lemmas.Bool.{cond_both, eqb-true, eq-eqb, ne_eqb, eqb-false}
+use Rattle.std.proofs.lemmas.Bool.{cond_both, eqb-true, eq-eqb}
 use Rattle.mesh_gen.specs.declared.kind.Kind.{Kind}
 use Rattle.mesh_gen.specs.declared.kind.Kind.TheVariants.{GetS, GetM, PutM}
 use Rattle.mesh_gen.specs.declared.request.Request.{Request}
@@ -77,9 +76,6 @@ only_second true b c none also = cc
 only_second false true c none also = refl
 only_second false false c none also = also
 
-not_same : (a b : ℕ) → (a == b) ≡ false → (b == a) ≡ false
-not_same a b is = ne_eqb b a (λ same. eqb-false a b is (sym same))
-
 -- the line of a write-back is owned as long as the write-back is live
 owns_back : (chip : Chip) (side : CacheSide) (back : WriteBack) → SideFits chip side → side.misses.back ≡ Some back → owns chip side back.line ≡ back.live
 unfolding owns
@@ -92,7 +88,8 @@ owns_back chip side back fits stands =
 
 put_sends : (line : ℕ) (chip : Chip) (side : CacheSide) (back : WriteBack) → backs_in line (own_put chip side (Some back)).sends ≡ count_if (back.live && (back.line == line))
 put_sends line chip side back = by back.live where
-  by : (live : Bool) → backs_in line (cond {A = List Msg} live (record { to = home chip back.line; kind = Back; line = back.line; words = back.words } ∷ []) []) ≡ count_if (live && (back.line == line))
+  by : (live : Bool) → backs_in line (cond {A = List Msg} live (record { to = home chip back.line; kind = Back; line = back.line; words = back.words } ∷ []) [])
+      ≡ count_if (live && (back.line == line))
   by true = omega (arith, count_by-cons (is_back_for line) (record { to = home chip back.line; kind = Back; line = back.line; words = back.words }) [])
   by false = refl
 

@@ -1,1 +1,2 @@
 pub mod OpenGets
+pub mod HomeParts

@@ -3,4 +3,4 @@
 
 mod laws;
 
-pub use laws::supply_laws;
+pub use laws::{get_laws, home_laws};
