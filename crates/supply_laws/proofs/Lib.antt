@@ -27,3 +27,15 @@ pub mod DataSends
 pub mod WaitingGets
 pub mod Carried
 pub mod DataKept
+pub mod PendingAnswers
+pub mod OpenLater
+pub mod UndeliveredRequests
+pub mod NewWriteBacks
+pub mod MemoryReached
+pub mod WriteBackEvents
+pub mod ReachedWords
+pub mod AnsweredHomes
+pub mod AnsweredLines
+pub mod ReturnedHomes
+pub mod LaterBacks
+pub mod HomeEvents

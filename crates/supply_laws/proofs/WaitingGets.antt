@@ -29,6 +29,7 @@ use Rattle.chip_laws.proofs.UnderWay.{demand_gets}
 use Rattle.supply_laws.specs.OpenGets.{WaitsFor}
 use Rattle.supply_laws.proofs.DataSends.{AllWaitFor, DemandServes, Supplies}
 use Rattle.supply_laws.proofs.GetPlaces.{get_drop, at_waits}
+use Rattle.supply_laws.proofs.ReachedWords.{not_reached}
 use Rattle.supply_laws.proofs.OneToComes.{to_come_by}
 use Rattle.supply_laws.proofs.OpenGets.{get_of}
 
@@ -138,26 +139,6 @@ module _ (d : Doc) (s : ChipState) (fits : DocFits d) (holds : ProtocolHolds d s
         ((holds.wait demand.line).after_write g k is.request q unit beyond is.at (is.kind ∙ kind) is.line source_at open_at there get line)))
 
   -- ---- those that wait at a record
-  last_place : (o : Option ℕ) (place : ℕ) → is_last o place ≡ true → o ≡ Some place
-  last_place None place is = absurd (false≢true is)
-  last_place (Some k) place is = ap Some (eqb-true k place is)
-
-  record ComesBack (line place : ℕ) : Type 0 where
-    pub last : last_written_back line s.network.ordered ≡ Some place
-    pub some : 0 < write_backs_in_flight s line + write_backs_to_come s line
-
-  not_reached : (line place : ℕ) → has_reached_memory s line place ≡ false → ComesBack line place
-  not_reached line place is =
-      by (is_last (last_written_back line s.network.ordered) place) (write_backs_in_flight s line + write_backs_to_come s line == 0) refl refl is where
-        above : (n : ℕ) → (n == 0) ≡ false → 0 < n
-        above zero e = absurd (false≢true (sym e))
-        above (suc n) e = omega arith
-
-        by : (l n : Bool) → is_last (last_written_back line s.network.ordered) place ≡ l → (write_backs_in_flight s line + write_backs_to_come s line == 0) ≡ n → (not l || n) ≡ false → ComesBack line place
-        by true false l n both = record { last = last_place (last_written_back line s.network.ordered) place l; some = above (write_backs_in_flight s line + write_backs_to_come s line) n }
-        by true true l n both = absurd (false≢true (sym both))
-        by false n l m both = absurd (false≢true (sym both))
-
   of_line : (line : ℕ) (q : Request) → (is_get q.kind && (q.line == line)) ≡ true → (is_get q.kind ≡ true) × (q.line ≡ line)
   of_line line q is = let parts = and_parts (is_get q.kind) (q.line == line) is in (parts.0, eqb-true q.line line parts.1)
 
@@ -168,7 +149,7 @@ module _ (d : Doc) (s : ChipState) (fits : DocFits d) (holds : ProtocolHolds d s
         → AllWaitFor (WaitsFor s) line (cond {A = List Waiting} b [] (waiting_for (up_to_getm (filter (λ (q : Request). is_get q.kind && (q.line == line)) (between place node.delivered s.network.ordered)))))
     by true reached = _
     by false waits =
-        let back = not_reached line place waits in
+        let back = not_reached s line place waits in
         each_waits s line place node.delivered (λ (q : Request). is_get q.kind && (q.line == line)) (of_line line) (λ k q beyond there get same.
         waits_of d s k line q fits holds there same ((holds.wait line).after_back place k q back.some back.last beyond there get same))
 
