@@ -29,11 +29,10 @@ use Rattle.supply_laws.proofs.NewWriteBacks.{OrdersMore}
 use Rattle.supply_laws.proofs.WriteBackEvents.{BackEvent, stays, orders, delivers, returns}
 use Rattle.supply_laws.proofs.ReachedWords.{IsDue}
 use Rattle.supply_laws.proofs.LaterBacks.{IsOpenWrite}
-use Rattle.supply_laws.proofs.GetPlaces.{open_place, undelivered_open}
+use Rattle.supply_laws.proofs.GetPlaces.{get_of, open_place, undelivered_open}
 use Rattle.supply_laws.proofs.GrownPlaces.{grown_place}
 use Rattle.supply_laws.proofs.PlaceEvents.{EndsBy, KeepsPlaces, KeepsOrTicks}
 use Rattle.supply_laws.proofs.Ticked.{Ticked, ticked}
-use Rattle.supply_laws.proofs.OpenGets.{get_of}
 use Rattle.supply_laws.proofs.NoWriteBacks.{before_of, waited_before, stood_before}
 use Rattle.supply_laws.proofs.PendingAnswers.{OpenAt}
 use Rattle.supply_laws.proofs.OpenLater.{stays_after_write, stays_after_back}
@@ -107,7 +106,8 @@ module _ (d : Doc) (s new : ChipState) (holds : ProtocolHolds d s) (is : Ticked 
       let same = tile.node.agrees.tile in
       let few : OneOpen new.network.ordered unit.node.tile unit.node =
       subst (λ (k : ℕ). OneOpen new.network.ordered k unit.node) (sym same) (one_open new.network q.source tile.interface unit.node tile.agrees tile.node.agrees) in
-      undelivered_open new.network.ordered unit.node place q few at (get_of unit.node.tile q get (sym same)) (let within = (known_of d s holds q.source unit was).within in omega (arith, beyond, within))
+      let within = (known_of d s holds q.source unit was).within in
+      undelivered_open new.network.ordered unit.node place q few at (get_of unit.node.tile q get (sym same)) (omega (arith, beyond, within))
 
   -- one that was ordered before
   old_open : (place : ℕ) (q : Request) → IsOpen s place q → IsOpen new place q

@@ -86,7 +86,8 @@ keeps_one d s new holds keeps supplied t after at place comes =
     ]
 
 -- ---- a tick
-came_before : (d : Doc) (s new : ChipState) (t place : ℕ) → (is : Ticked d s new) → is_to_come (chip_of d) new t place ≡ true → place < length s.network.ordered → is_to_come (chip_of d) s t place ≡ true
+came_before : (d : Doc) (s new : ChipState) (t place : ℕ) → (is : Ticked d s new) → is_to_come (chip_of d) new t place ≡ true → place < length s.network.ordered
+    → is_to_come (chip_of d) s t place ≡ true
 came_before d s new t place is comes old =
     let c = comes_to (chip_of d) new t place comes in
     let same : take place new.network.ordered ≡ take place s.network.ordered = ap (take place) is.order ∙ take-append-le place s.network.ordered is.more (omega (arith, old)) in

@@ -60,8 +60,8 @@ module _ (d : Doc) (s : ChipState) (fits : DocFits d) (holds : ProtocolHolds d s
           | inl earlier ↦ absurd (from.last.gets g first.get (omega (arith, earlier)) before first.at first.kind first.same)
           | inr later ↦ later
         ] in
-        (holds.wait line).after_write g from.place first.get from.get first.unit (strictly g from.place later away) first.at first.kind first.same first.unit_at first.waits from.at (ap is_get from.kind) from.same
-        unit at)
+        (holds.wait line).after_write g from.place first.get from.get first.unit (strictly g from.place later away) first.at first.kind first.same first.unit_at first.waits from.at
+        (ap is_get from.kind) from.same unit at)
   ]
 
   no_memory : {P : Type 0} (line g place : ℕ) (first : IsOpenWrite s line g) → g < place → owner line (take place s.network.ordered) ≡ Memory → P
@@ -98,7 +98,8 @@ module _ (d : Doc) (s : ChipState) (fits : DocFits d) (holds : ProtocolHolds d s
         | inr later ↦ later
       ] in
       (holds.wait line).after_back g from.place from.get due.some due.last
-      (strictly g from.place later (λ here. no_back line g s.network.ordered from.get (ap (slice_get s.network.ordered) here ∙ from.at) (ap is_get from.kind) last.passes)) from.at (ap is_get from.kind) from.same
+      (strictly g from.place later (λ here. no_back line g s.network.ordered from.get (ap (slice_get s.network.ordered) here ∙ from.at) (ap is_get from.kind) last.passes))
+      from.at (ap is_get from.kind) from.same
 
   -- or the memory, and no GetM stands between
   memory_since : (line g place : ℕ) → IsDue s line g → g < place → owner line (take place s.network.ordered) ≡ Memory → NoneFrom line (g + 1) place s.network.ordered
@@ -175,7 +176,8 @@ module _ (d : Doc) (s : ChipState) (fits : DocFits d) (holds : ProtocolHolds d s
           ∙ ap (λ (b : Bool). cond {A = List Waiting} b [] among) (is_not_reached s line g due) in
           let nothing = memory_since line g place due before owned in
           let some = waits_among p s.network.ordered g place unit.node.delivered is.get is.at before delivered (get_line line is.get is.asks is.same)
-          (reads_between d s fits holds 0 line g place (λ k r after earlier. nothing.gets k r (omega (arith, after)) earlier) p (λ r kept. eqb-true r.line line (and_parts (is_get r.kind) (r.line == line) kept).1)) in
+          (reads_between d s fits holds line g place (λ k r after earlier. nothing.gets k r (omega (arith, after)) earlier) p
+          (λ r kept. eqb-true r.line line (and_parts (is_get r.kind) (r.line == line) kept).1)) in
           recorded_pending (chip_of d) s is.get.source (home (chip_of d) line) line unit found.0 at found.1 (subst (λ (list : List Waiting). 1 ≤ places_in is.get.source list) (sym waiters) some)
 
   pub stays_after_back : {P : Type 0} (line g place : ℕ) → IsDue s line g → g < place → (is : OpenAt s line place) → EndsBy s is.get.source is.unit → P

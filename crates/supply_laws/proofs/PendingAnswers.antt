@@ -31,9 +31,9 @@ use Rattle.chip_laws.proofs.SupplyCounts.{count_by-cons, slice_of_index}
 use Rattle.chip_laws.proofs.SupplyRoom.{sum_by-part, one_answer}
 use Rattle.chip_laws.proofs.WaitsToCome.{count_by-some}
 use Rattle.supply_laws.proofs.OwnerGets.{OwnerGet}
-use Rattle.supply_laws.proofs.GetPlaces.{get_drop}
+use Rattle.supply_laws.proofs.GetPlaces.{get_of, get_drop}
 use Rattle.supply_laws.proofs.PlaceEvents.{EndsBy}
-use Rattle.supply_laws.proofs.OpenGets.{open_get, get_of}
+use Rattle.supply_laws.proofs.OpenGets.{open_get}
 use Rattle.supply_laws.proofs.OneToComes.{to_come_by}
 
 -- ---- who waits among the requests after a place
@@ -93,13 +93,15 @@ comes_pending chip s t place q at comes =
     let some = count_by-some (is_to_come chip s t) 0 (length s.network.ordered) place (omega arith) (omega (arith, within)) comes in
     omega (arith, some)
 
-pub listed_pending : (chip : Chip) (s : ChipState) (t u : ℕ) (unit : UnitState) (demand : Demand) → slice_get s.units u ≡ Some unit → unit.node.side.misses.demand ≡ Some demand → 1 ≤ places_in t demand.list
+pub listed_pending : (chip : Chip) (s : ChipState) (t u : ℕ) (unit : UnitState) (demand : Demand) → slice_get s.units u ≡ Some unit → unit.node.side.misses.demand ≡ Some demand
+    → 1 ≤ places_in t demand.list
     → 1 ≤ pending chip s t
 listed_pending chip s t u unit demand at stands some =
     let here : places_after t unit.node.side.misses.demand ≡ places_in t demand.list = ap (places_after t) stands in
     omega (arith, here, some, sum_by-part (promised_by t) s.units u unit at)
 
-pub recorded_pending : (chip : Chip) (s : ChipState) (t u line : ℕ) (unit : UnitState) (r : LineRecord) → slice_get s.units u ≡ Some unit → slice_index_or unit.node.records line None ≡ Some r → 1 ≤ places_in t r.waiters
+pub recorded_pending : (chip : Chip) (s : ChipState) (t u line : ℕ) (unit : UnitState) (r : LineRecord) → slice_get s.units u ≡ Some unit
+    → slice_index_or unit.node.records line None ≡ Some r → 1 ≤ places_in t r.waiters
     → 1 ≤ pending chip s t
 recorded_pending chip s t u line unit r at there some =
     let part = sum_by-part (places_at t) unit.node.records line (Some r) (slice_of_index unit.node.records line r there) in
@@ -127,7 +129,8 @@ module _ (d : Doc) (s : ChipState) (fits : DocFits d) (holds : ProtocolHolds d s
       let places : from.place ≡ place = same_Some from.place place (sym (opened is.unit unit_at) ∙ is.waits) in
       absurd (omega (arith, places, from.before))
 
-  pub to_come : (line place v : ℕ) (is : OpenAt s line place) → supplier (chip_of d) line (owner line (take place s.network.ordered)) ≡ v → delivered_at s v ≤ place → 1 ≤ pending (chip_of d) s is.get.source
+  pub to_come : (line place v : ℕ) (is : OpenAt s line place) → supplier (chip_of d) line (owner line (take place s.network.ordered)) ≡ v → delivered_at s v ≤ place
+      → 1 ≤ pending (chip_of d) s is.get.source
   to_come line place v is supplies before =
       let same : supplier (chip_of d) is.get.line (owner is.get.line (take place s.network.ordered)) ≡ v =
       ap (λ (l : ℕ). supplier (chip_of d) l (owner l (take place s.network.ordered))) is.same ∙ supplies in
@@ -145,10 +148,10 @@ module _ (d : Doc) (s : ChipState) (fits : DocFits d) (holds : ProtocolHolds d s
       rw (asks, other) (ap (λ (b : Bool). b && true) (eq-eqb q.line line same))
 
   -- among those that pass none is to write, where no GetM for the line stands
-  pub reads_between : (v line g place : ℕ) → ((k : ℕ) (r : Request) → g < k → k < place → slice_get s.network.ordered k ≡ Some r → r.kind ≡ GetM → r.line ≡ line → ⊥)
+  pub reads_between : (line g place : ℕ) → ((k : ℕ) (r : Request) → g < k → k < place → slice_get s.network.ordered k ≡ Some r → r.kind ≡ GetM → r.line ≡ line → ⊥)
       → (p : Request → Bool) → ((r : Request) → p r ≡ true → r.line ≡ line)
       → (k : ℕ) (r : Request) → g < k → k < place → slice_get s.network.ordered k ≡ Some r → p r ≡ true → is_getm r.kind ≡ false
-  reads_between v line g place none p line_of k r after before there passes = by (is_getm r.kind) refl where
+  reads_between line g place none p line_of k r after before there passes = by (is_getm r.kind) refl where
     by : (b : Bool) → is_getm r.kind ≡ b → is_getm r.kind ≡ false
     by true writes = absurd (none k r after before there (getm_is r.kind writes) (line_of r passes))
     by false reads = reads
@@ -160,7 +163,8 @@ module _ (d : Doc) (s : ChipState) (fits : DocFits d) (holds : ProtocolHolds d s
     by true false here both = absurd (false≢true both)
     by false b here both = absurd (false≢true both)
 
-  pub tile_supplies : (line place v : ℕ) (is : OpenAt s line place) → owner line (take place s.network.ordered) ≡ Tile v → (from : OwnerGet line v place s.network.ordered) → IsOpen s from.place from.get
+  pub tile_supplies : (line place v : ℕ) (is : OpenAt s line place) → owner line (take place s.network.ordered) ≡ Tile v → (from : OwnerGet line v place s.network.ordered)
+      → IsOpen s from.place from.get
       → TileSupplies is.get.source v
   tile_supplies line place v is owned from opened =
       let tile = tile_of d s from.get.source holds (source_inside d s from.place from.get fits holds from.at) in
@@ -176,8 +180,8 @@ module _ (d : Doc) (s : ChipState) (fits : DocFits d) (holds : ProtocolHolds d s
       listed : (unit : UnitState) → slice_get s.units from.get.source ≡ Some unit → place < unit.node.delivered → v ≢ is.get.source → 1 ≤ pending (chip_of d) s is.get.source
       listed unit at delivered apart =
           let here = holds_at d s holds from.get.source unit at in
-          let asked = open_get s.network from.get.source here.interface unit.node from.place (holds.network.requests.agree from.get.source here.interface here.at) here.holds.node.agrees here.holds.node.fits.side
-          (opened unit at) in
+          let agrees = holds.network.requests.agree from.get.source here.interface here.at in
+          let asked = open_get s.network from.get.source here.interface unit.node from.place agrees here.holds.node.agrees here.holds.node.fits.side (opened unit at) in
           let get_is : from.get ≡ asked.get = same_Some from.get asked.get (sym from.at ∙ asked.at) in
           let kind : asked.demand.kind ≡ GetM = asked.kind ∙ ap (λ (q : Request). q.kind) (sym get_is) ∙ from.kind in
           let line_is : asked.demand.line ≡ line = asked.line ∙ ap (λ (q : Request). q.line) (sym get_is) ∙ from.same in
@@ -187,7 +191,8 @@ module _ (d : Doc) (s : ChipState) (fits : DocFits d) (holds : ProtocolHolds d s
                 let p : Request → Bool = λ (q : Request). is_get q.kind && (q.line == asked.demand.line) && not (q.source == unit.node.tile) in
                 let passes : p is.get ≡ true = other_get unit.node.tile asked.demand.line is.get is.asks (is.same ∙ sym line_is) (λ e. apart (sym tile_is ∙ e)) in
                 let some = waits_among p s.network.ordered from.place place unit.node.delivered is.get is.at from.before delivered passes
-                (reads_between unit.node.tile line from.place place (λ k r after before. from.last.gets k r (omega (arith, after)) before) p (λ r kept. line_of_other unit.node.tile asked.demand.line r kept ∙ line_is)) in
+                (reads_between line from.place place (λ k r after before. from.last.gets k r (omega (arith, after)) before) p
+                (λ r kept. line_of_other unit.node.tile asked.demand.line r kept ∙ line_is)) in
                 listed_pending (chip_of d) s is.get.source from.get.source unit asked.demand at asked.stands
                 (subst (λ (list : List Waiting). 1 ≤ places_in is.get.source list) (sym ((here.holds.node.followed asked.demand from.place asked.stands ordered).list kind)) some))
             | inr rest ↦ absurd (omega (arith, rest.1, delivered, from.before))
