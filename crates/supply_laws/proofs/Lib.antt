@@ -30,3 +30,8 @@ pub mod DataKept
 pub mod NotedStates
 pub mod Reachable
 pub mod StateKept
+pub mod PendingAnswers
+pub mod OpenLater
+pub mod GetsKeepWaiting
+pub mod Arrivals
+pub mod GetEvents

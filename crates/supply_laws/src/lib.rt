@@ -1,6 +1,9 @@
-//! Who answers each get, and how written-back words reach memory, in every state of a chip. At run time the laws do nothing.
+//! Who answers each get, how written-back words reach memory, and with the laws below what holds in every state that a chip
+//! reaches. At run time the laws do nothing.
 #![tactic(auto)]
 
 mod laws;
+mod reachable;
 
-pub use laws::home_laws;
+pub use laws::{get_laws, home_laws};
+pub use reachable::reachable_laws;
