@@ -27,3 +27,4 @@ pub mod DataSends
 pub mod WaitingGets
 pub mod Carried
 pub mod DataKept
+pub mod FewTiles
