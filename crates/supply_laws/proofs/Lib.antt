@@ -28,3 +28,5 @@ pub mod WaitingGets
 pub mod Carried
 pub mod DataKept
 pub mod FewTiles
+pub mod DeliveryRoom
+pub mod ArrivalRoom
