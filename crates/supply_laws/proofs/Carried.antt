@@ -1,5 +1,5 @@
 -- What stands in a reply channel after a step of the replies is what stood there before, or the message that was sent.
-use Rattle.std.proofs.Common.{◌≡◌, ℕ, sym, ◌∙◌, ap, arith, inl, inr, Some, None}
+use Rattle.std.proofs.Common.{Option, ◌≡◌, ℕ, sym, ◌∙◌, ap, arith, inl, inr, Some, None}
 use Rattle.std.proofs.lemmas.Option.{same_Some}
 use Rattle.mesh_gen.specs.declared.msg.Msg.{Msg}
 use Rattle.mesh_gen.specs.declared.port.Port.{Port}
@@ -10,6 +10,7 @@ use Rattle.vc_bank.specs.Places.{Network, HasPlace, at, put}
 use Rattle.vc_bank.specs.Channels.{lowest_free}
 use Rattle.vc_bank.proofs.PlaceLaws.{at-put, place_of, length-slots-put}
 use Rattle.chip_model.specs.Copies.{channels_of}
+use Rattle.chip_model.specs.declared.channel.Channel.{Channel}
 use Rattle.chip_model.specs.Partial.{◌>>=◌}
 use Rattle.chip_model.specs.Replies.{after_send, next_channel, after_data_hop, after_data_eject}
 use Rattle.reply_net.proofs.Steps.{free_found, free_place, next_found}
@@ -42,11 +43,13 @@ pub hopped_stands : {P : Type 0} (g : Grid) (net new : Network Msg) (r : ℕ) (p
     → ((u v w : ℕ) → at net u v w ≡ Some m → P) → P
 unfolding after_data_hop
 hopped_stands {P} g net new r port slot n q j m hops stands before =
-    bind (at net r (port_number port) slot) (λ msg. next_channel g net r msg >>= λ next. Some (put (put net r (port_number port) slot None) next.router (port_number next.port) next.slot (Some msg))) new hops (λ msg stood rest.
-    bind (next_channel g net r msg) (λ next. Some (put (put net r (port_number port) slot None) next.router (port_number next.port) next.slot (Some msg))) new rest (λ next goes made.
     let mid = put net r (port_number port) slot None in
+    let moved : Msg → Channel → Option (Network Msg) = λ (msg : Msg) (next : Channel). Some (put mid next.router (port_number next.port) next.slot (Some msg)) in
+    bind (at net r (port_number port) slot) (λ msg. next_channel g net r msg >>= moved msg) new hops (λ msg stood rest.
+    bind (next_channel g net r msg) (moved msg) new rest (λ next goes made.
     let is = next_found g net r msg next goes in
-    let free : HasPlace net next.router (port_number next.port) next.slot = free_place net next.router (port_number next.port) next.slot (free_found net next.router (port_number next.port) next.slot is.lowest) in
+    let free : HasPlace net next.router (port_number next.port) next.slot =
+    free_place net next.router (port_number next.port) next.slot (free_found net next.router (port_number next.port) next.slot is.lowest) in
     let same_length = length-slots-put net r (port_number port) slot None next.router (port_number next.port) (place_of net r (port_number port) slot msg stood) in
     let place : HasPlace mid next.router (port_number next.port) next.slot = omega (arith, free, same_length) in
     let there : at (put mid next.router (port_number next.port) next.slot (Some msg)) n q j ≡ Some m =
@@ -57,7 +60,8 @@ hopped_stands {P} g net new r port slot n q j m hops stands before =
     ]))
 
 -- and comes to its tile
-pub received_leaves : (net new : Network Msg) (r : ℕ) (port : Port) (slot : ℕ) (msg : Msg) (n q j : ℕ) (m : Msg) → after_data_eject net r port slot ≡ Some (msg, new) → at new n q j ≡ Some m → at net n q j ≡ Some m
+pub received_leaves : (net new : Network Msg) (r : ℕ) (port : Port) (slot : ℕ) (msg : Msg) (n q j : ℕ) (m : Msg) → after_data_eject net r port slot ≡ Some (msg, new)
+    → at new n q j ≡ Some m → at net n q j ≡ Some m
 received_leaves net new r port slot msg n q j m comes stands =
     let is = received_is net r port slot (msg, new) comes in
     left_stood net r (port_number port) slot msg n q j m is.stood (ap (λ (x : Network Msg). at x n q j) (sym is.left) ∙ stands)

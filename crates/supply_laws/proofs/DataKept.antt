@@ -104,8 +104,8 @@ module _ (b : Behaviour) (laws : KeepsLaws b) (d : Doc) (s new : ChipState) (fit
       let next = delivers_next d s holds (deliveries_fit d s fits holds) t does.unit does.request new.network does.changes.at does.network in
       unit_data (WaitsFor s) s new all t does.unit (b.delivered does.request does.unit).0 does.changes
       (subst (λ (n : Node). AllDataIs (WaitsFor s) n.out) (sym law.1.goes_on.node)
-      (delivered_data (WaitsFor s) does.request does.unit.node (supplies_waiting d s fits holds t does.unit does.request does.changes.at next.at) (demand_waits d s fits holds t does.unit does.changes.at)
-      (all.queued t does.unit does.changes.at)))
+      (delivered_data (WaitsFor s) does.request does.unit.node (supplies_waiting d s fits holds t does.unit does.request does.changes.at next.at)
+      (demand_waits d s fits holds t does.unit does.changes.at) (all.queued t does.unit does.changes.at)))
       (same_carried (WaitsFor s) s new all does.replies)
 
   send_data : (t : ℕ) → EventDoes b (chip_of d) s new (Send t) → AllData (WaitsFor s) new
@@ -158,14 +158,15 @@ queued_counts chip s u place unit msg at there has =
     let part = sum_by-part (promised_by msg.to) s.units u unit at in
     omega (arith, one, part)
 
-carried_counts : (chip : Chip) (s : ChipState) (router port slot : ℕ) (msg : Msg) → at s.replies router port slot ≡ Some msg → msg.kind ≡ Data → 1 ≤ answers_to_come chip s msg.to
+pub carried_counts : (chip : Chip) (s : ChipState) (router port slot : ℕ) (msg : Msg) → at s.replies router port slot ≡ Some msg → msg.kind ≡ Data → 1 ≤ answers_to_come chip s msg.to
 carried_counts chip s router port slot msg there has =
     let one : count_if (is_data_for msg.to msg) ≡ 1 = ap count_if (is_for msg has) in
     let sum = weigh_at (λ r p i m. count_if (is_data_for msg.to m)) s.replies router port slot msg there in
     let some : 1 ≤ data_in_channels s msg.to = omega (arith, one, sum) in
     omega (arith, some)
 
-still_waits : (d : Doc) (s new : ChipState) (t line : ℕ) → ProtocolHolds d s → KeepsPlaces s new → GetsAreSupplied d new → WaitsFor s t line → 1 ≤ answers_to_come (chip_of d) new t → WaitsFor new t line
+still_waits : (d : Doc) (s new : ChipState) (t line : ℕ) → ProtocolHolds d s → KeepsPlaces s new → GetsAreSupplied d new → WaitsFor s t line → 1 ≤ answers_to_come (chip_of d) new t
+    → WaitsFor new t line
 still_waits d s new t line holds keeps supplied was some =
     let now = keeps.stands t was.unit was.unit_at in
     let here = holds_at d s holds t was.unit was.unit_at in
@@ -198,12 +199,14 @@ ticked_waits d s new t line is was = record {
   same = was.same;
 }
 
-waits_on : (d : Doc) (s new : ChipState) (t line : ℕ) → DocFits d → ProtocolHolds d s → KeepsOrTicks (chip_of d) s new → GetsAreSupplied d new → 1 ≤ answers_to_come (chip_of d) new t → WaitsFor s t line → WaitsFor new t line
+waits_on : (d : Doc) (s new : ChipState) (t line : ℕ) → DocFits d → ProtocolHolds d s → KeepsOrTicks (chip_of d) s new → GetsAreSupplied d new → 1 ≤ answers_to_come (chip_of d) new t
+    → WaitsFor s t line → WaitsFor new t line
 waits_on d s new t line fits holds (inl keeps) supplied some was = still_waits d s new t line holds keeps supplied was some
 waits_on d s new t line fits holds (inr ticks) supplied some was = ticked_waits d s new t line (ticked d s new fits holds ticks) was
 
 -- before any event no queue and no channel holds a message
-empty_queue : (d : Doc) (tiles : List ℕ) (k : ℕ) (unit : UnitState) → slice_get (map (λ (tile : ℕ). opening_unit (chip_of d) tile (program_of d tile) d.memory) tiles) k ≡ Some unit → unit.node.out ≡ []
+empty_queue : (d : Doc) (tiles : List ℕ) (k : ℕ) (unit : UnitState) → slice_get (map (λ (tile : ℕ). opening_unit (chip_of d) tile (program_of d tile) d.memory) tiles) k ≡ Some unit
+    → unit.node.out ≡ []
 empty_queue d [] k unit at = none_some unit at
 empty_queue d (tile ∷ tiles) zero unit at = ap (λ (u : UnitState). u.node.out) (sym (same_Some (opening_unit (chip_of d) tile (program_of d tile) d.memory) unit at))
 empty_queue d (tile ∷ tiles) (suc k) unit at = empty_queue d tiles k unit at
@@ -222,7 +225,8 @@ data_answers_kept b laws d s new event fits holds fit answers does supplied =
     let all = event_data b laws d s new fits holds fit (all_data s answers) event does in
     record {
       queued = λ u place unit msg at there has.
-          waits_on d s new msg.to msg.line fits holds goes supplied (queued_counts (chip_of d) new u place unit msg at there has) (each_at (DataIs (WaitsFor s)) unit.node.out place msg (all.queued u unit at) there has);
+          waits_on d s new msg.to msg.line fits holds goes supplied (queued_counts (chip_of d) new u place unit msg at there has)
+          (each_at (DataIs (WaitsFor s)) unit.node.out place msg (all.queued u unit at) there has);
       carried = λ router port slot msg there has.
           waits_on d s new msg.to msg.line fits holds goes supplied (carried_counts (chip_of d) new router port slot msg there has) (all.carried router port slot msg there has);
     }

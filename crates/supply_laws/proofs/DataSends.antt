@@ -15,7 +15,8 @@ use Rattle.chip_model.specs.declared.owner.Owner.TheVariants.{Memory, Tile}
 use Rattle.chip_model.specs.declared.waiting.Waiting.{Waiting}
 use Rattle.chip_model.specs.Chip.{Chip, home}
 use Rattle.chip_model.specs.Misses.{Demand, WriteBack, is_getm}
-use Rattle.chip_model.specs.Snoop.{CacheSide, Holding, OwnedCopy, LiveBack, OpenWrite, OpenRead, SharedCopy, Nothing, data_to, data_to_all, completed, completed_load, completed_store, written_by, words_here, ordered_with, own_get, own_put, own_request, holding, snooped_with, after_snoop, data_at, data_for, after_data}
+use Rattle.chip_model.specs.Snoop.{CacheSide, Holding, OwnedCopy, LiveBack, OpenWrite, OpenRead, SharedCopy, Nothing, data_to, data_to_all, completed, completed_load}
+use Rattle.chip_model.specs.Snoop.{completed_store, written_by, words_here, ordered_with, own_get, own_put, own_request, holding, snooped_with, after_snoop, data_at, data_for, after_data}
 use Rattle.chip_model.specs.Records.{LineRecord, Records, Answer, from_memory, awaiting_write_back, owned_by_tile, answered_by, answered_at, answered, returned_at, back_arrived}
 use Rattle.chip_model.specs.Node.{Node, node_after_request, arrived_as, node_after_message, after_message_sent}
 use Rattle.chip_model.specs.Bookkeeping.{is_get}
@@ -83,13 +84,15 @@ module _ (P : ℕ → ℕ → Type 0) where
   other_sends chip side q PutM is = put_sends chip side q (holding chip side q.line)
 
   -- ---- the demand completes
-  completed_sends : (chip : Chip) (demand : Demand) (place : ℕ) (words : List ℕ) (side : CacheSide) → AllWaitFor P demand.line demand.list → AllDataIs P (completed chip demand place words side).sends
+  completed_sends : (chip : Chip) (demand : Demand) (place : ℕ) (words : List ℕ) (side : CacheSide) → AllWaitFor P demand.line demand.list
+      → AllDataIs P (completed chip demand place words side).sends
   completed_sends chip demand place words side all =
       cond_both (is_getm demand.kind) (completed_store chip demand place words side) (completed_load chip demand place words side) (λ outcome. AllDataIs P outcome.sends)
       (λ writes. all_sent demand.line (written_by demand.pending words) demand.list all)
       (λ reads. _)
 
-  ordered_sends : (chip : Chip) (side : CacheSide) (place : ℕ) (demand : Demand) (words : Option (List ℕ)) → AllWaitFor P demand.line demand.list → AllDataIs P (ordered_with chip side place demand words).sends
+  ordered_sends : (chip : Chip) (side : CacheSide) (place : ℕ) (demand : Demand) (words : Option (List ℕ)) → AllWaitFor P demand.line demand.list
+      → AllDataIs P (ordered_with chip side place demand words).sends
   ordered_sends chip side place demand (Some words) all = completed_sends chip demand place words side all
   ordered_sends chip side place demand None all = _
 
@@ -112,7 +115,8 @@ module _ (P : ℕ → ℕ → Type 0) where
   snooped_sends : (node : Node) (q : Request) → Supplies P node q → DemandServes P node.side → AllDataIs P (after_snoop node.chip node.tile node.side node.delivered q).sends
   unfolding after_snoop
   snooped_sends node q supplies serves =
-      cond_both (q.source == node.tile) (own_request node.chip node.side node.delivered q.kind) (snooped_with node.chip q node.side (holding node.chip node.side q.line) q.kind) (λ outcome. AllDataIs P outcome.sends)
+      cond_both (q.source == node.tile) (own_request node.chip node.side node.delivered q.kind) (snooped_with node.chip q node.side (holding node.chip node.side q.line) q.kind)
+      (λ outcome. AllDataIs P outcome.sends)
       (λ own. own_sends node.chip node.side node.delivered q.kind serves)
       (λ other. other_sends node.chip node.side q q.kind supplies.owned)
 
@@ -132,7 +136,8 @@ module _ (P : ℕ → ℕ → Type 0) where
   tile_sends q r tile GetM = _
   tile_sends q r tile PutM = _
 
-  record_sends : (q : Request) (records : Records) (entry : Option LineRecord) → (is_get q.kind ≡ true → is_from_memory entry ≡ true → P q.source q.line) → AllDataIs P (answered_at q records entry).sends
+  record_sends : (q : Request) (records : Records) (entry : Option LineRecord) → (is_get q.kind ≡ true → is_from_memory entry ≡ true → P q.source q.line)
+      → AllDataIs P (answered_at q records entry).sends
   record_sends q records None is = _
   record_sends q records (Some r) is = by r.owner r.fresh refl refl where
     by : (owner : Owner) (fresh : Bool) → r.owner ≡ owner → r.fresh ≡ fresh → AllDataIs P (answered_by q r r.owner).sends
@@ -145,7 +150,8 @@ module _ (P : ℕ → ℕ → Type 0) where
         (subst (λ (b : Bool). AllDataIs P (cond {A = Answer} b (from_memory q r q.kind) (awaiting_write_back q r q.kind)).sends) (sym fresh) (waiting_sends q r q.kind))
     by (Tile tile) fresh owner fresh_is = subst (λ (o : Owner). AllDataIs P (answered_by q r o).sends) (sym owner) (tile_sends q r tile q.kind)
 
-  answered_sends : (q : Request) (records : Records) → (is_get q.kind ≡ true → is_from_memory (slice_index_or records q.line None) ≡ true → P q.source q.line) → AllDataIs P (answered q records).sends
+  answered_sends : (q : Request) (records : Records) → (is_get q.kind ≡ true → is_from_memory (slice_index_or records q.line None) ≡ true → P q.source q.line)
+      → AllDataIs P (answered q records).sends
   unfolding answered
   answered_sends q records is = record_sends q records (slice_index_or records q.line None) is
 
@@ -158,7 +164,8 @@ module _ (P : ℕ → ℕ → Type 0) where
       (each_append (DataIs P) node.out (after_snoop node.chip node.tile node.side node.delivered q).sends all (snooped_sends node q supplies serves))
       (answered_sends q node.records supplies.memory)
 
-  data_sends : (chip : Chip) (side : CacheSide) (words : List ℕ) (demand : Demand) (place : Option ℕ) → AllWaitFor P demand.line demand.list → AllDataIs P (data_at chip side words demand place).sends
+  data_sends : (chip : Chip) (side : CacheSide) (words : List ℕ) (demand : Demand) (place : Option ℕ) → AllWaitFor P demand.line demand.list
+      → AllDataIs P (data_at chip side words demand place).sends
   data_sends chip side words demand (Some place) all = completed_sends chip demand place words side all
   data_sends chip side words demand None all = _
 
@@ -166,7 +173,8 @@ module _ (P : ℕ → ℕ → Type 0) where
   words_sends chip side words None stands is = _
   words_sends chip side words (Some demand) stands is = data_sends chip side words demand demand.ordered (is demand stands)
 
-  back_sends : (line : ℕ) (words : List ℕ) (records : Records) (entry : Option LineRecord) → ((r : LineRecord) → entry ≡ Some r → AllWaitFor P line r.waiters) → AllDataIs P (returned_at line words records entry).sends
+  back_sends : (line : ℕ) (words : List ℕ) (records : Records) (entry : Option LineRecord) → ((r : LineRecord) → entry ≡ Some r → AllWaitFor P line r.waiters)
+      → AllDataIs P (returned_at line words records entry).sends
   back_sends line words records None is = _
   back_sends line words records (Some r) is = all_sent line words r.waiters (is r refl)
 

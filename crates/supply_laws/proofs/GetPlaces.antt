@@ -1,9 +1,10 @@
 -- The place of the get for which a tile waits: that of its ordered demand, and else its first get that it has not delivered.
-use Rattle.std.proofs.Common.{◌≡◌, ◌≢◌, ℕ, zero, suc, ◌+◌, ◌-◌, ◌<◌, ◌≤◌, Bool, true, false, refl, sym, ◌∙◌, ap, subst, arith, inl, inr, ◌⊎◌, Option, Some, None, List, [], ◌∷◌, drop, length, length-drop, get_or}
-use Rattle.std.specs.Prelude.{is_some, slice_get, position, option_map}
+use Rattle.std.proofs.Common.{◌≡◌, ℕ, zero, suc, ◌+◌, ◌-◌, ◌<◌, ◌≤◌, Bool, true, false, refl, sym, ◌∙◌}
+use Rattle.std.proofs.Common.{ap, subst, arith, inl, inr, ◌⊎◌, Option, Some, None, List, [], ◌∷◌, drop, length, length-drop, get_or}
+use Rattle.std.specs.Prelude.{◌==◌, ◌&&◌, is_some, slice_get, position, option_map}
 use Rattle.std.specs.List.{count_by}
 use Rattle.std.specs.Option.{option_or}
-use Rattle.std.proofs.lemmas.Bool.{false≢true, cases_eq, cases_lt}
+use Rattle.std.proofs.lemmas.Bool.{false≢true, and_parts, eq-eqb, eqb-true, cases_eq, cases_lt}
 use Rattle.std.proofs.lemmas.List.{get_or-drop}
 use Rattle.std.proofs.lemmas.List.Quantifiers.{position-Some}
 use Rattle.std.proofs.lemmas.Option.{slice_get_within, get_or_from_slice_get, slice_get-get_or}
@@ -12,12 +13,19 @@ use Rattle.mesh_gen.specs.declared.request.Request.{Request}
 use Rattle.mesh_gen.specs.Ports.{count_if}
 use Rattle.chip_model.specs.Misses.{Demand}
 use Rattle.chip_model.specs.Node.{Node}
-use Rattle.chip_model.specs.Bookkeeping.{is_get_of}
+use Rattle.chip_model.specs.Bookkeeping.{is_get, is_get_of}
 use Rattle.chip_model.specs.Suppliers.{is_ordered, place_of_ordered}
 use Rattle.line_cache.proofs.First.{position-None}
 use Rattle.chip_laws.proofs.Options.{none_some}
 use Rattle.chip_laws.proofs.SupplyCounts.{count_by-cons}
 use Rattle.chip_laws.proofs.SuppliedComes.{OneOpen}
+
+-- whose get it is
+pub get_parts : (t : ℕ) (q : Request) → is_get_of t q ≡ true → (is_get q.kind ≡ true) × (q.source ≡ t)
+get_parts t q is = let parts = and_parts (is_get q.kind) (q.source == t) is in (parts.0, eqb-true q.source t parts.1)
+
+pub get_of : (t : ℕ) (q : Request) → is_get q.kind ≡ true → q.source ≡ t → is_get_of t q ≡ true
+get_of t q asks source = ap (λ (b : Bool). b && (q.source == t)) asks ∙ eq-eqb q.source t source
 
 -- ---- the first get of a tile from a place on
 pub record FirstGet (ordered : List Request) (t from place : ℕ) : Type 0 where
@@ -75,12 +83,9 @@ first_only ordered t from place (Some other) is also = elim (cases_eq other plac
   | inl same ↦ ap Some same
   | inr away ↦ elim (cases_lt other place) [
     | inl before ↦ not_both ordered t from other place also is before
-    | inr beyond ↦ not_both ordered t from place other is also (apart place other beyond away)
+    | inr beyond ↦ not_both ordered t from place other is also (omega (arith, beyond, away))
   ]
 ]
-  where
-    apart : (a b : ℕ) → a ≤ b → b ≢ a → a < b
-    apart a b le ne = elim (cases_lt a b) [ inl less ↦ less | inr more ↦ absurd (ne (omega (arith, le, more))) ]
 
 pub first_get_at : (ordered : List Request) (t from place : ℕ) → FirstGet ordered t from place → first_get ordered t from ≡ Some place
 first_get_at ordered t from place is = first_only ordered t from place (first_get ordered t from) is (first_get_is ordered t from)
@@ -150,7 +155,8 @@ WaitsAt ordered node place =
 
 pub waits_at : (ordered : List Request) (node : Node) (place : ℕ) → open_place ordered node ≡ Some place → WaitsAt ordered node place
 waits_at ordered node place is = by (place_of_ordered node.side.misses.demand) refl (first_get ordered node.tile node.delivered) (first_get_is ordered node.tile node.delivered) refl where
-  by : (o : Option ℕ) → place_of_ordered node.side.misses.demand ≡ o → (p : Option ℕ) → FirstGetIs ordered node.tile node.delivered p → first_get ordered node.tile node.delivered ≡ p → WaitsAt ordered node place
+  by : (o : Option ℕ) → place_of_ordered node.side.misses.demand ≡ o → (p : Option ℕ) → FirstGetIs ordered node.tile node.delivered p → first_get ordered node.tile node.delivered ≡ p
+      → WaitsAt ordered node place
   by (Some k) ordered_is p first first_is = inl (ordered_is ∙ (sym (ap (λ (x : Option ℕ). option_or x (first_get ordered node.tile node.delivered)) ordered_is) ∙ is))
   by None ordered_is None first first_is =
       none_some place (sym (ap (λ (x : Option ℕ). option_or x (first_get ordered node.tile node.delivered)) ordered_is ∙ first_is) ∙ is)
@@ -222,7 +228,8 @@ pub none_waits : (ordered : List Request) (node : Node) → open_place ordered n
 none_waits ordered node is =
     by (place_of_ordered node.side.misses.demand) (first_get ordered node.tile node.delivered) refl refl (first_get_is ordered node.tile node.delivered) is where
       by : (o p : Option ℕ) → place_of_ordered node.side.misses.demand ≡ o → first_get ordered node.tile node.delivered ≡ p
-          → FirstGetIs ordered node.tile node.delivered (first_get ordered node.tile node.delivered) → option_or (place_of_ordered node.side.misses.demand) (first_get ordered node.tile node.delivered) ≡ None
+          → FirstGetIs ordered node.tile node.delivered (first_get ordered node.tile node.delivered)
+          → option_or (place_of_ordered node.side.misses.demand) (first_get ordered node.tile node.delivered) ≡ None
           → WaitsForNone ordered node
       by (Some k) p o_is p_is first none = none_some k (sym none ∙ ap (λ (x : Option ℕ). option_or x (first_get ordered node.tile node.delivered)) o_is)
       by None (Some k) o_is p_is first none = none_some k (sym none ∙ (ap (λ (x : Option ℕ). option_or x (first_get ordered node.tile node.delivered)) o_is ∙ p_is))

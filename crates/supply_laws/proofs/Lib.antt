@@ -30,3 +30,8 @@ pub mod DataKept
 pub mod FewTiles
 pub mod DeliveryRoom
 pub mod ArrivalRoom
+pub mod PendingAnswers
+pub mod OpenLater
+pub mod GetsKeepWaiting
+pub mod Arrivals
+pub mod GetEvents

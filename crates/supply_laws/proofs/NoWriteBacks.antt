@@ -58,9 +58,10 @@ ticks_none : (d : Doc) (s new : ChipState) → ProtocolHolds d s → Ticked d s 
 ticks_none d s new holds is none g place get put unit at_get at waits before at_put kind source line =
     let was : slice_get s.units get.source ≡ Some unit = ap (λ (units : List UnitState). slice_get units get.source) (sym is.units) ∙ at in
     elim (cases_lt place (length s.network.ordered)) [
-      | inl old ↦
-          none g place get put unit (stood_before s new is.more g get is.order at_get (omega (arith, old, before))) was (waited_before s new is.more unit g is.order waits (omega (arith, old, before))) before
-          (stood_before s new is.more place put is.order at_put old) kind source line
+      | inl old ↦ (
+          let earlier : g < length s.network.ordered = omega (arith, old, before) in
+          none g place get put unit (stood_before s new is.more g get is.order at_get earlier) was (waited_before s new is.more unit g is.order waits earlier) before
+          (stood_before s new is.more place put is.order at_put old) kind source line)
       | inr beyond ↦ (
           let tile = is.tiles get.source unit was in
           let asked = open_get new.network get.source tile.interface unit.node g tile.agrees tile.node.agrees tile.node.fits.side waits in

@@ -13,7 +13,7 @@ use Rattle.chip_model.specs.Units.{UnitState}
 use Rattle.chip_model.specs.ChipState.{ChipState, opening}
 use Rattle.chip_model.specs.Ownership.{owner}
 use Rattle.chip_model.specs.Bookkeeping.{is_get_of}
-use Rattle.chip_model.specs.Suppliers.{count_of, delivered_at, supplier, is_to_come_at, is_to_come, is_ordered, answers_to_come, place_of_get, IsSupplied, OneToCome}
+use Rattle.chip_model.specs.Suppliers.{count_of, delivered_at, supplier, is_to_come_at, is_to_come, is_ordered, answers_to_come, place_of_get, IsSupplied}
 use Rattle.chip_model.specs.ChipInvariant.{ProtocolHolds}
 use Rattle.chip_laws.specs.DocFits.{DocFits}
 use Rattle.chip_laws.specs.Parts.{GetsAreSupplied}
@@ -22,15 +22,12 @@ use Rattle.chip_laws.proofs.OrderFrames.{holds_at, known_of}
 use Rattle.chip_laws.proofs.SupplyBounds.{one_open}
 use Rattle.chip_laws.proofs.SuppliedComes.{OneOpen}
 use Rattle.chip_laws.proofs.WaitsToCome.{to_come_counts}
+use Rattle.supply_laws.specs.OpenGets.{EachHasOneToCome}
 use Rattle.supply_laws.proofs.GetPlaces.{none_waits, open_place, undelivered_open}
 use Rattle.supply_laws.proofs.PlaceEvents.{KeepsPlaces, KeepsOrTicks}
 use Rattle.supply_laws.proofs.GrownPlaces.{grown_place}
 use Rattle.supply_laws.proofs.NoWriteBacks.{before_of, stood_before}
 use Rattle.supply_laws.proofs.Ticked.{Ticked, ticked}
-
--- each tile
-abbrev pub EachHasOneToCome : Doc → ChipState → Type 0
-EachHasOneToCome d s = (t : ℕ) (unit : UnitState) → slice_get s.units t ≡ Some unit → OneToCome (chip_of d) s t unit.node
 
 -- ---- a get that is to come
 pub record ComesTo (chip : Chip) (s : ChipState) (t place : ℕ) : Type 0 where
@@ -89,7 +86,8 @@ keeps_one d s new holds keeps supplied t after at place comes =
     ]
 
 -- ---- a tick
-came_before : (d : Doc) (s new : ChipState) (t place : ℕ) → (is : Ticked d s new) → is_to_come (chip_of d) new t place ≡ true → place < length s.network.ordered → is_to_come (chip_of d) s t place ≡ true
+came_before : (d : Doc) (s new : ChipState) (t place : ℕ) → (is : Ticked d s new) → is_to_come (chip_of d) new t place ≡ true → place < length s.network.ordered
+    → is_to_come (chip_of d) s t place ≡ true
 came_before d s new t place is comes old =
     let c = comes_to (chip_of d) new t place comes in
     let same : take place new.network.ordered ≡ take place s.network.ordered = ap (take place) is.order ∙ take-append-le place s.network.ordered is.more (omega (arith, old)) in

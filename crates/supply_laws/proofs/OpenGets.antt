@@ -1,19 +1,19 @@
 -- The get for which a tile waits is that of its demand, which was sent and is for the same line.
 use Rattle.std.proofs.Common.{◌≡◌, ℕ, ◌≤◌, Bool, true, false, refl, sym, ◌∙◌, ap, inl, inr, ◌⊎◌, Option, Some, None, List}
-use Rattle.std.specs.Prelude.{◌==◌, ◌&&◌, slice_get}
-use Rattle.std.proofs.lemmas.Bool.{false≢true, eq-eqb, eqb-true, both_ways}
+use Rattle.std.specs.Prelude.{◌==◌, slice_get}
+use Rattle.std.proofs.lemmas.Bool.{eq-eqb, both_ways}
 use Rattle.mesh_gen.specs.declared.kind.Kind.TheVariants.{PutM}
 use Rattle.mesh_gen.specs.declared.request.Request.{Request}
 use Rattle.chip_model.specs.OrderedNetwork.{OrderedNetwork, Interface}
 use Rattle.chip_model.specs.Misses.{Demand}
 use Rattle.chip_model.specs.Node.{Node}
 use Rattle.chip_model.specs.NodeShape.{SideFits}
-use Rattle.chip_model.specs.Bookkeeping.{is_get, is_get_of, TileAgrees}
+use Rattle.chip_model.specs.Bookkeeping.{is_get, TileAgrees}
 use Rattle.chip_model.specs.Suppliers.{place_of_ordered}
 use Rattle.chip_model.specs.NetworkFits.{InterfaceAgrees}
 use Rattle.chip_laws.proofs.Options.{none_some}
 use Rattle.chip_laws.proofs.UnderWay.{demand_gets}
-use Rattle.supply_laws.proofs.GetPlaces.{FirstGet, open_place, waits_at}
+use Rattle.supply_laws.proofs.GetPlaces.{get_parts, FirstGet, open_place, waits_at}
 use Rattle.supply_laws.proofs.Undelivered.{undelivered_get, undelivered_put}
 
 -- the get of a tile at a place, for which its demand stands
@@ -29,17 +29,6 @@ pub record OpenGet (ordered : List Request) (t : ℕ) (node : Node) (place : ℕ
   pub sent : demand.sent ≡ true
   pub stage : (demand.ordered ≡ Some place) ⊎ ((demand.ordered ≡ None) × (node.delivered ≤ place))
 
--- whose get it is
-pub get_parts : (t : ℕ) (q : Request) → is_get_of t q ≡ true → (is_get q.kind ≡ true) × (q.source ≡ t)
-get_parts t q is = by (is_get q.kind) (q.source == t) refl refl is where
-  by : (a b : Bool) → is_get q.kind ≡ a → (q.source == t) ≡ b → (a && b) ≡ true → (is_get q.kind ≡ true) × (q.source ≡ t)
-  by true true a b both = (a, eqb-true q.source t b)
-  by true false a b both = absurd (false≢true both)
-  by false x a b both = absurd (false≢true both)
-
-pub get_of : (t : ℕ) (q : Request) → is_get q.kind ≡ true → q.source ≡ t → is_get_of t q ≡ true
-get_of t q asks source = ap (λ (b : Bool). b && (q.source == t)) asks ∙ eq-eqb q.source t source
-
 demand_of : (entry : Option Demand) (place : ℕ) → place_of_ordered entry ≡ Some place → (demand : Demand) × (entry ≡ Some demand) × (demand.ordered ≡ Some place)
 demand_of None place is = none_some place is
 demand_of (Some demand) place is = (demand, refl, is)
@@ -53,7 +42,8 @@ was_sent demand place unsent ordered = by demand.sent refl where
 pub open_get : (net : OrderedNetwork) (t : ℕ) (interface : Interface) (node : Node) (place : ℕ) → InterfaceAgrees net t interface → TileAgrees net t interface node → SideFits node.chip node.side
     → open_place net.ordered node ≡ Some place → OpenGet net.ordered t node place
 open_get net t interface node place agrees is fits waits = by (waits_at net.ordered node place waits) where
-  by : (place_of_ordered node.side.misses.demand ≡ Some place) ⊎ ((place_of_ordered node.side.misses.demand ≡ None) × FirstGet net.ordered node.tile node.delivered place) → OpenGet net.ordered t node place
+  by : (place_of_ordered node.side.misses.demand ≡ Some place) ⊎ ((place_of_ordered node.side.misses.demand ≡ None) × FirstGet net.ordered node.tile node.delivered place)
+      → OpenGet net.ordered t node place
   by (inl ordered) =
       let found = demand_of node.side.misses.demand place ordered in
       let at = is.demand found.0 place found.1 found.2 in
@@ -87,8 +77,10 @@ open_get net t interface node place agrees is fits waits = by (waits_at net.orde
       }
 
 -- a tile that waits for a get of a line has none of its own requests on its way that writes the line back
-pub none_written_back : {P : Type 0} (net : OrderedNetwork) (t : ℕ) (interface : Interface) (node : Node) (g place : ℕ) (put : Request) → InterfaceAgrees net t interface → TileAgrees net t interface node
-    → SideFits node.chip node.side → (is : OpenGet net.ordered t node g) → slice_get net.ordered place ≡ Some put → put.kind ≡ PutM → put.source ≡ t → put.line ≡ is.get.line → node.delivered ≤ place → P
+pub none_written_back : {P : Type 0} (net : OrderedNetwork) (t : ℕ) (interface : Interface) (node : Node) (g place : ℕ) (put : Request) → InterfaceAgrees net t interface
+    → TileAgrees net t interface node
+    → SideFits node.chip node.side → (is : OpenGet net.ordered t node g) → slice_get net.ordered place ≡ Some put → put.kind ≡ PutM → put.source ≡ t → put.line ≡ is.get.line
+    → node.delivered ≤ place → P
 none_written_back net t interface node g place put agrees is fits get at kind source line beyond =
     let found = undelivered_put net t interface node place put agrees is at source beyond (ap is_get kind) in
     let same : get.demand.line ≡ found.0.line = get.line ∙ sym line ∙ sym found.2.line in

@@ -168,7 +168,8 @@ owner_suc line n ordered q at =
     let next : suc n ≡ n + 1 = omega arith in
     ap (λ k. owner line (take k ordered)) next ∙ owner_next line n ordered q at
 
-get_longer : (line v n : ℕ) (ordered : List Request) → ((start : ℕ) → NoneFrom line start n ordered → NoneFrom line start (suc n) ordered) → OwnerGet line v n ordered → OwnerGet line v (suc n) ordered
+get_longer : (line v n : ℕ) (ordered : List Request) → ((start : ℕ) → NoneFrom line start n ordered → NoneFrom line start (suc n) ordered) → OwnerGet line v n ordered
+    → OwnerGet line v (suc n) ordered
 get_longer line v n ordered more was = record {
   place = was.place;
   get = was.get;

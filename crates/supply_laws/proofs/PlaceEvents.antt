@@ -2,7 +2,7 @@
 -- completes; or it is a tick, which changes no unit.
 use Rattle.std.proofs.Common.{◌≡◌, ℕ, ◌+◌, ◌≤◌, Bool, true, false, cond, refl, sym, ◌∙◌, ap, subst, arith, inl, inr, ◌⊎◌, Option, Some, None, List}
 use Rattle.std.specs.Prelude.{◌==◌, ◌&&◌, not, take, slice_get}
-use Rattle.std.proofs.lemmas.Bool.{cases_eq, eq-eqb}
+use Rattle.std.proofs.lemmas.Bool.{cases_eq, eq-eqb, eqb-true}
 use Rattle.std.proofs.lemmas.Option.{same_Some}
 use Rattle.mesh_gen.specs.declared.request.Request.{Request}
 use Rattle.mesh_gen.specs.declared.port.Port.{Port}
@@ -45,7 +45,7 @@ use Rattle.chip_laws.proofs.SuppliedComes.{OneOpen}
 use Rattle.chip_laws.proofs.UnitFrames.{changed_unit, other_unit, each_unit}
 use Rattle.chip_laws.proofs.WholeSteps.{delivers_next}
 use Rattle.supply_laws.proofs.OwnerGets.{is_owner}
-use Rattle.supply_laws.proofs.GetPlaces.{open_place, none_waits, undelivered_open}
+use Rattle.supply_laws.proofs.GetPlaces.{get_of, open_place, none_waits, undelivered_open}
 use Rattle.supply_laws.proofs.PlaceSteps.{asked_place, message_sent_place, accessed_place, arrived_place, returned_place, delivered_place, delivered_ends}
 
 -- of a tile at most one get is ordered and not complete
@@ -203,7 +203,7 @@ delivered_goes d s t unit q holds at next own = elim (delivered_place s.network.
     by true owned early_is owned_is ends asks = inl (let one : count_if (has_early unit.node.side.misses.demand) ≡ 1 = ap count_if early_is in omega (arith, one))
     by false true early_is owned_is ends asks =
         let here = holds_at d s holds t unit at in
-        let waits = undelivered_open s.network.ordered unit.node unit.node.delivered q few next (ap (λ (b : Bool). b && (q.source == unit.node.tile)) asks.1 ∙ asks.0) (omega arith) in
+        let waits = undelivered_open s.network.ordered unit.node unit.node.delivered q few next (get_of unit.node.tile q asks.1 (eqb-true q.source unit.node.tile asks.0)) (omega arith) in
         let owner_is : owner q.line (take unit.node.delivered s.network.ordered) ≡ Tile unit.node.tile =
         is_owner unit.node.tile (owner q.line (take unit.node.delivered s.network.ordered)) (sym (here.holds.serves.owns.lines q.line) ∙ owned_is) in
         inr (λ place r waits_r at_r.
@@ -219,7 +219,8 @@ delivered_goes d s t unit q holds at next own = elim (delivered_place s.network.
         let none_owned : cond (owns unit.node.chip unit.node.side q.line) (count_if (is_get q.kind)) 0 ≡ 0 = ap (λ (b : Bool). cond b (count_if (is_get q.kind)) 0) owned_is in
         let one : count_if (is_get q.kind) ≡ 1 = ap count_if asks.1 in
         let account = delivered_account q unit.node here.holds.node.fits.side own asks.0 (omega (arith, none_early, none_owned)) in
-        let unordered : count_if (is_ordered (node_after_request q unit.node).0.side.misses.demand) ≡ 0 = ap count_if (none_waits s.network.ordered (node_after_request q unit.node).0 ends).unordered in
+        let after = (node_after_request q unit.node).0 in
+        let unordered : count_if (is_ordered after.side.misses.demand) ≡ 0 = ap count_if (none_waits s.network.ordered after ends).unordered in
         absurd (omega (arith, account, none_early, none_owned, one, unordered))
 
 -- data that comes
@@ -230,7 +231,8 @@ arrived_goes d s t port slot unit msg replies holds at comes = elim (arrived_pla
   | inr ends ↦ by msg.kind refl ends
 ]
   where
-    by : (kind : MsgKind) → msg.kind ≡ kind → open_place s.network.ordered (node_after_message msg unit.node).0 ≡ None → GoesOnBy s t unit (open_place s.network.ordered (node_after_message msg unit.node).0)
+    by : (kind : MsgKind) → msg.kind ≡ kind → open_place s.network.ordered (node_after_message msg unit.node).0 ≡ None
+        → GoesOnBy s t unit (open_place s.network.ordered (node_after_message msg unit.node).0)
     by Back kind ends = inl (returned_place s.network.ordered msg unit.node kind)
     by Data kind ends =
         let is = received_is s.replies t port slot (msg, replies) comes in
@@ -265,7 +267,8 @@ module _ (b : Behaviour) (laws : KeepsLaws b) (d : Doc) (s new : ChipState) (fit
       let law = laws.received does.msg does.unit (fit r does.unit does.changes.at) in
       let node : (b.received does.msg does.unit).0.node ≡ (node_after_message does.msg does.unit.node).0 = law.1.goes_on.node in
       let same : (b.received does.msg does.unit).0.node.delivered ≡ does.unit.node.delivered = ap (λ (n : Node). n.delivered) node ∙ same_delivered does.msg does.unit.node in
-      unit_places s new r does.unit (b.received does.msg does.unit).0 does.changes (same_order s new does.network) (ap (λ (n : Node). n.tile) node ∙ same_tile does.msg does.unit.node) (omega (arith, same))
+      unit_places s new r does.unit (b.received does.msg does.unit).0 does.changes (same_order s new does.network) (ap (λ (n : Node). n.tile) node ∙ same_tile does.msg does.unit.node)
+      (omega (arith, same))
       (subst (λ (n : Node). GoesOnBy s r does.unit (open_place s.network.ordered n)) (sym node) (arrived_goes d s r port slot does.unit does.msg new.replies holds does.changes.at does.replies))
 
   pub keeps_or_ticks : (event : Event) → EventDoes b (chip_of d) s new event → KeepsOrTicks (chip_of d) s new
@@ -273,7 +276,8 @@ module _ (b : Behaviour) (laws : KeepsLaws b) (d : Doc) (s new : ChipState) (fit
   keeps_or_ticks (Core t) does = inl (core_keeps t does)
   keeps_or_ticks (Inject t) does =
       inl (unit_places s new t does.unit (record does.unit { node = after_request_sent does.unit.node }) does.changes
-      (injected_order (chip_of d) s.network new.network t does.kind does.line does.network) (asked_tile does.unit.node) (omega (arith, asked_count does.unit.node)) (inl (asked_place s.network.ordered does.unit.node)))
+      (injected_order (chip_of d) s.network new.network t does.kind does.line does.network) (asked_tile does.unit.node)
+      (omega (arith, asked_count does.unit.node)) (inl (asked_place s.network.ordered does.unit.node)))
   keeps_or_ticks (Post t) does = inl (quiet_places s new (posted_order s.network new.network t does.network) does.units)
   keeps_or_ticks (Take t) does = inl (quiet_places s new (taken_order s.network new.network t does.network) does.units)
   keeps_or_ticks (Eject t) does = inl (eject_keeps t does)

@@ -3,7 +3,7 @@ use Rattle.std.proofs.Common.{◌≡◌, ℕ, ◌+◌, ◌<◌, ◌≤◌, Bool,
 use Rattle.std.specs.Prelude.{◌==◌, ◌&&◌, is_some, slice_get, drop}
 use Rattle.std.specs.List.{count_by}
 use Rattle.std.specs.Option.{option_or}
-use Rattle.std.proofs.lemmas.Bool.{false≢true, cases_eq, eq-eqb, eqb-true}
+use Rattle.std.proofs.lemmas.Bool.{false≢true, cases_eq, eqb-true}
 use Rattle.std.proofs.lemmas.Option.{same_Some}
 use Rattle.mesh_gen.specs.declared.kind.Kind.{Kind}
 use Rattle.mesh_gen.specs.declared.kind.Kind.TheVariants.{GetS, GetM, PutM}
@@ -26,7 +26,7 @@ use Rattle.snoop_core.proofs.SnoopSteps.{snoop_forms}
 use Rattle.snoop_core.proofs.Accesses.{access_forms, accessed_free}
 use Rattle.chip_laws.proofs.UnderWay.{completed_none}
 use Rattle.chip_laws.proofs.SuppliedComes.{OneOpen}
-use Rattle.supply_laws.proofs.GetPlaces.{NoGet, FirstGetIs, first_get, first_get_is, first_get_at, first_get_none, none_counts, open_place, at_waits, waits_for_none, undelivered_open, both_count}
+use Rattle.supply_laws.proofs.GetPlaces.{get_of, NoGet, FirstGetIs, first_get, first_get_is, first_get_at, first_get_none, none_counts, open_place, at_waits, waits_for_none, undelivered_open, both_count}
 
 -- the place stays, or the get is complete and no other one is ordered
 abbrev pub StaysOrEnds : Option ℕ → Option ℕ → Type 0
@@ -97,7 +97,8 @@ none_left ordered old new place tile delivered few ordered_before now =
     at_most_one false = omega arith
 
 -- data for an ordered demand completes it, and other data is kept
-data_at_place : (ordered : List Request) (node : Node) (words : List ℕ) (demand : Demand) (place : Option ℕ) → node.side.misses.demand ≡ Some demand → demand.ordered ≡ place → OneOpen ordered node.tile node
+data_at_place : (ordered : List Request) (node : Node) (words : List ℕ) (demand : Demand) (place : Option ℕ) → node.side.misses.demand ≡ Some demand → demand.ordered ≡ place
+    → OneOpen ordered node.tile node
     → StaysOrEnds (open_place ordered node) (open_place ordered (record node { side = (data_at node.chip node.side words demand place).side }))
 data_at_place ordered node words demand (Some place) stands is few =
     inr (none_left ordered node (record node { side = (data_at node.chip node.side words demand (Some place)).side }) place refl refl few
@@ -111,7 +112,8 @@ data_place : (ordered : List Request) (node : Node) (words : List ℕ) (entry : 
 data_place ordered node words None stands few = inl refl
 data_place ordered node words (Some demand) stands few = data_at_place ordered node words demand demand.ordered stands refl few
 
-arrived_kind : (ordered : List Request) (msg : Msg) (node : Node) (kind : MsgKind) → OneOpen ordered node.tile node → StaysOrEnds (open_place ordered node) (open_place ordered (arrived_as msg node kind).0)
+arrived_kind : (ordered : List Request) (msg : Msg) (node : Node) (kind : MsgKind) → OneOpen ordered node.tile node
+    → StaysOrEnds (open_place ordered node) (open_place ordered (arrived_as msg node kind).0)
 unfolding after_data
 arrived_kind ordered msg node Data few = data_place ordered node msg.words node.side.misses.demand refl few
 arrived_kind ordered msg node Back few = inl refl
@@ -146,7 +148,8 @@ passed_place ordered old new q tile delivered at passes demand =
       | inr other ↦ omega (arith, other, beyond)
     ]
 
-    by : (o : Option ℕ) → first_get ordered old.tile old.delivered ≡ o → FirstGetIs ordered old.tile old.delivered o → first_get ordered old.tile (old.delivered + 1) ≡ first_get ordered old.tile old.delivered
+    by : (o : Option ℕ) → first_get ordered old.tile old.delivered ≡ o → FirstGetIs ordered old.tile old.delivered o
+        → first_get ordered old.tile (old.delivered + 1) ≡ first_get ordered old.tile old.delivered
     by None is none = first_get_none ordered old.tile (old.delivered + 1) (λ k r beyond there. none k r (omega (arith, beyond)) there) ∙ sym is
     by (Some place) is first =
         first_get_at ordered old.tile (old.delivered + 1) place (record {
@@ -158,7 +161,8 @@ passed_place ordered old new q tile delivered at passes demand =
         })
         ∙ sym is
 
-snooped_demand : (chip : Chip) (side : CacheSide) (q : Request) → place_of_ordered (snooped_with chip q side (holding chip side q.line) q.kind).side.misses.demand ≡ place_of_ordered side.misses.demand
+snooped_demand : (chip : Chip) (side : CacheSide) (q : Request)
+    → place_of_ordered (snooped_with chip q side (holding chip side q.line) q.kind).side.misses.demand ≡ place_of_ordered side.misses.demand
 snooped_demand chip side q = snoop_forms chip side q (λ (outcome : Outcome). place_of_ordered outcome.side.misses.demand ≡ place_of_ordered side.misses.demand) (record {
   put = λ kind. refl;
   copy_read = λ kind held there owned. refl;
@@ -187,7 +191,8 @@ own_gets : (ordered : List Request) (node new : Node) (q : Request) → OneOpen 
     → new.tile ≡ node.tile → new.delivered ≡ node.delivered + 1
     → (place_of_ordered new.side.misses.demand ≡ Some node.delivered) ⊎ (place_of_ordered new.side.misses.demand ≡ None)
     → StaysOrEnds (open_place ordered node) (open_place ordered new)
-own_gets ordered node new q few at get tile delivered (inl waits) = inl (at_waits ordered new node.delivered (inl waits) ∙ sym (undelivered_open ordered node node.delivered q few at get (omega arith)))
+own_gets ordered node new q few at get tile delivered (inl waits) =
+    inl (at_waits ordered new node.delivered (inl waits) ∙ sym (undelivered_open ordered node node.delivered q few at get (omega arith)))
 own_gets ordered node new q few at get tile delivered (inr ends) =
     inr (waits_for_none ordered new ends (λ k r beyond there. by k r (omega (arith, beyond, delivered)) there (is_get_of new.tile r) refl)) where
       most : (b : Bool) → count_if b ≤ 1
@@ -216,10 +221,10 @@ get_demand node q (demand, stands, is) =
 own_place : (ordered : List Request) (q : Request) (node : Node) (kind : Kind) → q.kind ≡ kind → q.source ≡ node.tile → OneOpen ordered node.tile node → slice_get ordered node.delivered ≡ Some q
     → MeetsOwn node.side q kind → StaysOrEnds (open_place ordered node) (open_place ordered (AfterOwn node (own_request node.chip node.side node.delivered kind).side))
 own_place ordered q node GetS kind own few at meets =
-    own_gets ordered node (AfterOwn node (own_request node.chip node.side node.delivered GetS).side) q few at (ap (λ (k : Kind). is_get k && (q.source == node.tile)) kind ∙ eq-eqb q.source node.tile own) refl refl
+    own_gets ordered node (AfterOwn node (own_request node.chip node.side node.delivered GetS).side) q few at (get_of node.tile q (ap is_get kind) own) refl refl
     (get_demand node q meets)
 own_place ordered q node GetM kind own few at meets =
-    own_gets ordered node (AfterOwn node (own_request node.chip node.side node.delivered GetM).side) q few at (ap (λ (k : Kind). is_get k && (q.source == node.tile)) kind ∙ eq-eqb q.source node.tile own) refl refl
+    own_gets ordered node (AfterOwn node (own_request node.chip node.side node.delivered GetM).side) q few at (get_of node.tile q (ap is_get kind) own) refl refl
     (get_demand node q meets)
 own_place ordered q node PutM kind own few at meets =
     inl (passed_place ordered node (AfterOwn node (own_request node.chip node.side node.delivered PutM).side) q refl refl at (ap (λ (k : Kind). is_get k && (q.source == node.tile)) kind)
@@ -258,7 +263,9 @@ pub delivered_ends : (ordered : List Request) (q : Request) (node : Node) → On
 unfolding node_after_request after_snoop
 delivered_ends ordered q node few at meets none = by (q.source == node.tile) refl none where
   by : (own : Bool) → (q.source == node.tile) ≡ own
-      → open_place ordered (AfterOwn node (cond own (own_request node.chip node.side node.delivered q.kind) (snooped_with node.chip q node.side (holding node.chip node.side q.line) q.kind)).side) ≡ None
+      → open_place ordered
+      (AfterOwn node (cond own (own_request node.chip node.side node.delivered q.kind) (snooped_with node.chip q node.side (holding node.chip node.side q.line) q.kind)).side)
+      ≡ None
       → (open_place ordered node ≡ None) ⊎ (((q.source == node.tile) ≡ true) × (is_get q.kind ≡ true))
   by true own ends = elim (own_ends ordered q node q.kind refl at ends) [ inl none_before ↦ inl none_before | inr get ↦ inr (own, get) ]
   by false other ends =

@@ -1,6 +1,6 @@
 -- Those to whom a node sends data wait for a get of its line: the tile that it supplies, those that wait for its demand, and
 -- those that wait at its records.
-use Rattle.std.proofs.Common.{◌≡◌, ℕ, zero, suc, ◌+◌, ◌<◌, Bool, true, false, cond, refl, sym, ◌∙◌, ap, subst, arith, inl, Option, Some, None, List, [], ◌∷◌, take}
+use Rattle.std.proofs.Common.{◌≡◌, ℕ, suc, ◌+◌, ◌<◌, Bool, true, false, cond, refl, sym, ◌∙◌, ap, subst, arith, inl, Option, Some, None, List, [], ◌∷◌, take}
 use Rattle.std.specs.Prelude.{◌==◌, ◌&&◌, ◌||◌, not, filter, slice_get, slice_index_or}
 use Rattle.std.specs.List.{AllByRecursion}
 use Rattle.std.proofs.lemmas.Bool.{false≢true, and_parts, eqb-true}
@@ -16,7 +16,7 @@ use Rattle.chip_model.specs.Units.{UnitState}
 use Rattle.chip_model.specs.ChipState.{ChipState}
 use Rattle.chip_model.specs.Ownership.{owner, owns, delivered_to}
 use Rattle.chip_model.specs.Bookkeeping.{is_get, between, up_to_getm, waiting_for}
-use Rattle.chip_model.specs.Suppliers.{count_of, delivered_at, supplier, place_of_ordered, place_of_get, IsOpen, last_written_back, is_last, has_reached_memory, waiters_after, write_backs_in_flight, write_backs_to_come}
+use Rattle.chip_model.specs.Suppliers.{count_of, delivered_at, supplier, place_of_ordered, place_of_get, IsOpen, last_written_back, has_reached_memory, waiters_after}
 use Rattle.chip_model.specs.ChipInvariant.{ProtocolHolds}
 use Rattle.chip_laws.specs.DocFits.{DocFits}
 use Rattle.chip_laws.proofs.Each.{each_map, each_up_to_getm}
@@ -28,9 +28,9 @@ use Rattle.chip_laws.proofs.SupplyDeliveries.{supplier_here}
 use Rattle.chip_laws.proofs.UnderWay.{demand_gets}
 use Rattle.supply_laws.specs.OpenGets.{WaitsFor}
 use Rattle.supply_laws.proofs.DataSends.{AllWaitFor, DemandServes, Supplies}
-use Rattle.supply_laws.proofs.GetPlaces.{get_drop, at_waits}
+use Rattle.supply_laws.proofs.GetPlaces.{get_of, get_drop, at_waits}
+use Rattle.supply_laws.proofs.ReachedWords.{not_reached}
 use Rattle.supply_laws.proofs.OneToComes.{to_come_by}
-use Rattle.supply_laws.proofs.OpenGets.{get_of}
 
 -- ---- lists
 each_passing : {X : Type 0} (P : X → Type 0) (p : X → Bool) (xs : List X) → ((k : ℕ) (x : X) → slice_get xs k ≡ Some x → p x ≡ true → P x) → AllByRecursion P (filter p xs)
@@ -46,7 +46,8 @@ pub each_waits : (s : ChipState) (line place below : ℕ) (p : Request → Bool)
     → AllWaitFor (WaitsFor s) line (waiting_for (up_to_getm (filter p (between place below s.network.ordered))))
 each_waits s line place below p passes each =
     let Waits : Request → Type 0 = λ (q : Request). WaitsFor s q.source line in
-    each_map Waits (λ (waiting : Waiting). WaitsFor s waiting.tile line) (λ (q : Request). record { tile = q.source; kind = q.kind }) (up_to_getm (filter p (between place below s.network.ordered))) (λ q waits. waits)
+    each_map Waits (λ (waiting : Waiting). WaitsFor s waiting.tile line) (λ (q : Request). record { tile = q.source; kind = q.kind })
+    (up_to_getm (filter p (between place below s.network.ordered))) (λ q waits. waits)
     (each_up_to_getm Waits (filter p (between place below s.network.ordered))
     (each_passing Waits p (between place below s.network.ordered) (λ k q at is.
     let there = get_take s.network.ordered below (place + 1 + k) q (sym (get_drop (take below s.network.ordered) (place + 1) k) ∙ at) in
@@ -54,7 +55,8 @@ each_waits s line place below p passes each =
     each (place + 1 + k) q (omega arith) there parts.0 parts.1)))
 
 -- an open get of a line is one for which its tile waits
-pub waits_of : (d : Doc) (s : ChipState) (k line : ℕ) (q : Request) → DocFits d → ProtocolHolds d s → slice_get s.network.ordered k ≡ Some q → q.line ≡ line → IsOpen s k q → WaitsFor s q.source line
+pub waits_of : (d : Doc) (s : ChipState) (k line : ℕ) (q : Request) → DocFits d → ProtocolHolds d s → slice_get s.network.ordered k ≡ Some q → q.line ≡ line → IsOpen s k q
+    → WaitsFor s q.source line
 waits_of d s k line q fits holds at same is =
     let tile = tile_of d s q.source holds (source_inside d s k q fits holds at) in
     record { unit = tile.unit; unit_at = tile.unit_at; place = k; waits = is tile.unit tile.unit_at; get = q; get_at = at; same = same }
@@ -138,26 +140,6 @@ module _ (d : Doc) (s : ChipState) (fits : DocFits d) (holds : ProtocolHolds d s
         ((holds.wait demand.line).after_write g k is.request q unit beyond is.at (is.kind ∙ kind) is.line source_at open_at there get line)))
 
   -- ---- those that wait at a record
-  last_place : (o : Option ℕ) (place : ℕ) → is_last o place ≡ true → o ≡ Some place
-  last_place None place is = absurd (false≢true is)
-  last_place (Some k) place is = ap Some (eqb-true k place is)
-
-  record ComesBack (line place : ℕ) : Type 0 where
-    pub last : last_written_back line s.network.ordered ≡ Some place
-    pub some : 0 < write_backs_in_flight s line + write_backs_to_come s line
-
-  not_reached : (line place : ℕ) → has_reached_memory s line place ≡ false → ComesBack line place
-  not_reached line place is =
-      by (is_last (last_written_back line s.network.ordered) place) (write_backs_in_flight s line + write_backs_to_come s line == 0) refl refl is where
-        above : (n : ℕ) → (n == 0) ≡ false → 0 < n
-        above zero e = absurd (false≢true (sym e))
-        above (suc n) e = omega arith
-
-        by : (l n : Bool) → is_last (last_written_back line s.network.ordered) place ≡ l → (write_backs_in_flight s line + write_backs_to_come s line == 0) ≡ n → (not l || n) ≡ false → ComesBack line place
-        by true false l n both = record { last = last_place (last_written_back line s.network.ordered) place l; some = above (write_backs_in_flight s line + write_backs_to_come s line) n }
-        by true true l n both = absurd (false≢true (sym both))
-        by false n l m both = absurd (false≢true (sym both))
-
   of_line : (line : ℕ) (q : Request) → (is_get q.kind && (q.line == line)) ≡ true → (is_get q.kind ≡ true) × (q.line ≡ line)
   of_line line q is = let parts = and_parts (is_get q.kind) (q.line == line) is in (parts.0, eqb-true q.line line parts.1)
 
@@ -165,14 +147,16 @@ module _ (d : Doc) (s : ChipState) (fits : DocFits d) (holds : ProtocolHolds d s
   waits_after line node None = _
   waits_after line node (Some place) = by (has_reached_memory s line place) refl where
     by : (b : Bool) → has_reached_memory s line place ≡ b
-        → AllWaitFor (WaitsFor s) line (cond {A = List Waiting} b [] (waiting_for (up_to_getm (filter (λ (q : Request). is_get q.kind && (q.line == line)) (between place node.delivered s.network.ordered)))))
+        → AllWaitFor (WaitsFor s) line
+        (cond {A = List Waiting} b [] (waiting_for (up_to_getm (filter (λ (q : Request). is_get q.kind && (q.line == line)) (between place node.delivered s.network.ordered)))))
     by true reached = _
     by false waits =
-        let back = not_reached line place waits in
+        let back = not_reached s line place waits in
         each_waits s line place node.delivered (λ (q : Request). is_get q.kind && (q.line == line)) (of_line line) (λ k q beyond there get same.
         waits_of d s k line q fits holds there same ((holds.wait line).after_back place k q back.some back.last beyond there get same))
 
-  pub waiters_wait : (u : ℕ) (unit : UnitState) (line : ℕ) (r : LineRecord) → slice_get s.units u ≡ Some unit → slice_index_or unit.node.records line None ≡ Some r → AllWaitFor (WaitsFor s) line r.waiters
+  pub waiters_wait : (u : ℕ) (unit : UnitState) (line : ℕ) (r : LineRecord) → slice_get s.units u ≡ Some unit → slice_index_or unit.node.records line None ≡ Some r
+      → AllWaitFor (WaitsFor s) line r.waiters
   waiters_wait u unit line r at there =
       let here = holds_at d s holds u unit at in
       subst (AllWaitFor (WaitsFor s) line) (sym (here.holds.serves.waiters line r there)) (by r.fresh) where

@@ -7,7 +7,9 @@ use Rattle.mesh_gen.specs.declared.request.Request.{Request}
 use Rattle.vc_bank.specs.Places.{at}
 use Rattle.chip_model.specs.Units.{UnitState}
 use Rattle.chip_model.specs.ChipState.{ChipState}
-use Rattle.chip_model.specs.Suppliers.{place_of_get}
+use Rattle.doc_text.specs.Doc.{Doc}
+use Rattle.chip_model.specs.Chip.{chip_of}
+use Rattle.chip_model.specs.Suppliers.{place_of_get, OneToCome, GetsWait}
 
 -- a tile does not write a line back after a get of its own for that line which is not complete
 abbrev pub NoneWritesBackBefore : ChipState → Type 0
@@ -31,3 +33,11 @@ pub record DataAnswersGets (s : ChipState) : Type 0 where
       → slice_get unit.node.out place ≡ Some msg → msg.kind ≡ Data → WaitsFor s msg.to msg.line
   pub carried : (router port slot : ℕ) (msg : Msg) → at s.replies router port slot ≡ Some msg
       → msg.kind ≡ Data → WaitsFor s msg.to msg.line
+
+-- of each tile no get but the one for which it waits is to come to its supplier
+abbrev pub EachHasOneToCome : Doc → ChipState → Type 0
+EachHasOneToCome d s = (t : ℕ) (unit : UnitState) → slice_get s.units t ≡ Some unit → OneToCome (chip_of d) s t unit.node
+
+-- the gets of each line wait for those that are to be answered before them
+abbrev pub AllGetsWait : ChipState → Type 0
+AllGetsWait s = (line : ℕ) → GetsWait s line

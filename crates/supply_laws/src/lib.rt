@@ -3,4 +3,4 @@
 
 mod laws;
 
-pub use laws::home_laws;
+pub use laws::{get_laws, home_laws};
