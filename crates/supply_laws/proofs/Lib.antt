@@ -27,6 +27,9 @@ pub mod DataSends
 pub mod WaitingGets
 pub mod Carried
 pub mod DataKept
+pub mod FewTiles
+pub mod DeliveryRoom
+pub mod ArrivalRoom
 pub mod PendingAnswers
 pub mod OpenLater
 pub mod GetsKeepWaiting

@@ -1,2 +1,3 @@
 pub mod OpenGets
 pub mod HomeParts
+pub mod UnitCalls
