@@ -39,7 +39,8 @@ pub fn get_laws()
     // Data that came before its request was delivered is for such a get too.
     ensures early { (d : Doc) (s : ChipState) (t : ℕ) (unit : UnitState) (demand : Demand)
         (words : List ℕ) → ProtocolHolds d s → slice_get s.units t ≡ Some unit
-        → unit.node.side.misses.demand ≡ Some demand → demand.early ≡ Some words → WaitsFor s t demand.line }
+        → unit.node.side.misses.demand ≡ Some demand → demand.early ≡ Some words
+        → WaitsFor s t demand.line }
 
     // No get is complete after an earlier GetM for its line that is not, or while words of the line are to reach memory.
     ensures wait_opened { (d : Doc) → AllGetsWait (opening d) }
