@@ -102,7 +102,7 @@ ends_writes (last ∷ []) ends = ap (λ (b : Bool). b || false) ends
 ends_writes (first ∷ next ∷ rest) ends = either_true (is_getm first.kind) (list_any (λ (w : Waiting). is_getm w.kind) (next ∷ rest)) (ends_writes (next ∷ rest) ends)
 
 module _ (d : Doc) (s : ChipState) (t : ℕ) (unit : UnitState) (q : Request) (fits : DocFits d) (holds : ProtocolHolds d s) (at : slice_get s.units t ≡ Some unit)
-    (next : slice_get s.network.ordered unit.node.delivered ≡ Some q) where
+  (next : slice_get s.network.ordered unit.node.delivered ≡ Some q) where
   abbrev node : Node
   node = unit.node
 
@@ -171,7 +171,7 @@ module _ (d : Doc) (s : ChipState) (t : ℕ) (unit : UnitState) (q : Request) (f
       by : (reached : Bool) → any_writes (gets_for q.line (between place node.delivered s.network.ordered)) ≡ false
           → ends_in_getm (cond {A = List Waiting} reached [] (waiting_for (up_to_getm (gets_for q.line (between place node.delivered s.network.ordered))))) ≡ true → ⊥
       by true none ends = false≢true ends
-      by false none ends =
+      by false none ends = 
           let xs = gets_for q.line (between place node.delivered s.network.ordered) in
           false≢true (sym none ∙ sym (any_waits xs) ∙ ends_writes (waiting_for (up_to_getm xs)) ends)
 
