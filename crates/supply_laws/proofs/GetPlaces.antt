@@ -1,5 +1,5 @@
 -- The place of the get for which a tile waits: that of its ordered demand, and else its first get that it has not delivered.
-use Rattle.std.proofs.Common.{◌≡◌, ◌≢◌, ℕ, zero, suc, ◌+◌, ◌-◌, ◌<◌, ◌≤◌, Bool, true, false, refl, sym, ◌∙◌}
+use Rattle.std.proofs.Common.{◌≡◌, ℕ, zero, suc, ◌+◌, ◌-◌, ◌<◌, ◌≤◌, Bool, true, false, refl, sym, ◌∙◌}
 use Rattle.std.proofs.Common.{ap, subst, arith, inl, inr, ◌⊎◌, Option, Some, None, List, [], ◌∷◌, drop, length, length-drop, get_or}
 use Rattle.std.specs.Prelude.{◌==◌, ◌&&◌, is_some, slice_get, position, option_map}
 use Rattle.std.specs.List.{count_by}
@@ -83,12 +83,9 @@ first_only ordered t from place (Some other) is also = elim (cases_eq other plac
   | inl same ↦ ap Some same
   | inr away ↦ elim (cases_lt other place) [
     | inl before ↦ not_both ordered t from other place also is before
-    | inr beyond ↦ not_both ordered t from place other is also (apart place other beyond away)
+    | inr beyond ↦ not_both ordered t from place other is also (omega (arith, beyond, away))
   ]
 ]
-  where
-    apart : (a b : ℕ) → a ≤ b → b ≢ a → a < b
-    apart a b le ne = elim (cases_lt a b) [ inl less ↦ less | inr more ↦ absurd (ne (omega (arith, le, more))) ]
 
 pub first_get_at : (ordered : List Request) (t from place : ℕ) → FirstGet ordered t from place → first_get ordered t from ≡ Some place
 first_get_at ordered t from place is = first_only ordered t from place (first_get ordered t from) is (first_get_is ordered t from)

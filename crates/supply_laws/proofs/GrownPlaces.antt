@@ -1,5 +1,5 @@
 -- Where the order grows, the place of the get for which a tile waits stays, or a new get is ordered.
-use Rattle.std.proofs.Common.{◌≡◌, ◌≢◌, ℕ, ◌<◌, ◌≤◌, refl, sym, ◌∙◌, ap, subst, arith, inl, inr, ◌⊎◌, Option, Some, None, List, ◌++◌, length}
+use Rattle.std.proofs.Common.{◌≡◌, ℕ, ◌≤◌, refl, sym, ◌∙◌, ap, subst, arith, inl, inr, ◌⊎◌, Option, Some, None, List, ◌++◌, length}
 use Rattle.std.specs.Option.{option_or}
 use Rattle.std.proofs.lemmas.Bool.{false≢true, cases_lt, cases_eq}
 use Rattle.std.proofs.lemmas.Option.{slice_get_within}
@@ -32,12 +32,9 @@ grown_place ordered more node =
         | inl before ↦ (
             let within = slice_get_within ordered k was.get was.at in
             absurd (false≢true (sym (was.first j now.get now.beyond before (sym (slice_get-append_left ordered more j (omega (arith, before, within))) ∙ now.at)) ∙ now.gets)))
-        | inr beyond ↦ absurd (false≢true (sym (now.first k was.get was.beyond (apart k j beyond away) (slice_get_grown ordered more k was.get was.at)) ∙ was.gets))
+        | inr beyond ↦ absurd (false≢true (sym (now.first k was.get was.beyond (omega (arith, beyond, away)) (slice_get_grown ordered more k was.get was.at)) ∙ was.gets))
       ]
     ]
-      where
-        apart : (a b : ℕ) → a ≤ b → b ≢ a → a < b
-        apart a b le ne = elim (cases_lt a b) [ inl less ↦ less | inr more ↦ absurd (ne (omega (arith, le, more))) ]
 
     Goal : Option ℕ → Option ℕ → Option ℕ → Type 0
     Goal o old new = (option_or o new ≡ option_or o old) ⊎ IsOrderedNow (length ordered) (option_or o old) (option_or o new)

@@ -30,6 +30,9 @@ pub mod DataKept
 pub mod NotedStates
 pub mod Reachable
 pub mod StateKept
+pub mod FewTiles
+pub mod DeliveryRoom
+pub mod ArrivalRoom
 pub mod PendingAnswers
 pub mod OpenLater
 pub mod GetsKeepWaiting

@@ -31,9 +31,6 @@ use Rattle.supply_laws.proofs.OwnerGets.{NoneFrom, OwnerGet, owner_get, memory_o
 use Rattle.supply_laws.proofs.PlaceEvents.{EndsBy}
 use Rattle.supply_laws.proofs.PendingAnswers.{pending, recorded_pending, waits_among, OpenAt, to_come, reads_between, tile_supplies, never_ends}
 
-strictly : (a b : ℕ) → a ≤ b → a ≢ b → a < b
-strictly a b le ne = elim (cases_lt a b) [ inl less ↦ less | inr more ↦ absurd (ne (omega (arith, le, more))) ]
-
 no_tile : {P : Type 0} (o : Owner) (t : ℕ) → o ≡ Memory → o ≡ Tile t → P
 no_tile o t memory tile = absurd (let same : Memory ≡ Tile t = sym memory ∙ tile in cc)
 
@@ -60,7 +57,7 @@ module _ (d : Doc) (s : ChipState) (fits : DocFits d) (holds : ProtocolHolds d s
           | inl earlier ↦ absurd (from.last.gets g first.get (omega (arith, earlier)) before first.at first.kind first.same)
           | inr later ↦ later
         ] in
-        (holds.wait line).after_write g from.place first.get from.get first.unit (strictly g from.place later away) first.at first.kind first.same first.unit_at first.waits from.at
+        (holds.wait line).after_write g from.place first.get from.get first.unit (omega (arith, later, away)) first.at first.kind first.same first.unit_at first.waits from.at
         (ap is_get from.kind) from.same unit at)
   ]
 
@@ -71,7 +68,7 @@ module _ (d : Doc) (s : ChipState) (fits : DocFits d) (holds : ProtocolHolds d s
       | inl later ↦ absurd (both_ways (writes_back line s.network.ordered back.place) (none_after_open d s line g fits holds none first back.place later) back.back)
       | inr earlier ↦ elim (cases_eq back.place g) [
         | inl here ↦ no_back line back.place s.network.ordered first.get (ap (slice_get s.network.ordered) here ∙ first.at) (ap is_get first.kind) back.back
-        | inr away ↦ absurd (back.last.gets g first.get (let less = strictly back.place g earlier away in omega (arith, less)) before first.at first.kind first.same)
+        | inr away ↦ absurd (back.last.gets g first.get (omega (arith, earlier, away)) before first.at first.kind first.same)
       ]
     ]
   ]
@@ -97,9 +94,9 @@ module _ (d : Doc) (s : ChipState) (fits : DocFits d) (holds : ProtocolHolds d s
         | inl earlier ↦ absurd (both_ways (writes_back line s.network.ordered g) (from.last.backs g (omega (arith, earlier)) before) last.passes)
         | inr later ↦ later
       ] in
+      let away : g ≢ from.place = λ here. no_back line g s.network.ordered from.get (ap (slice_get s.network.ordered) here ∙ from.at) (ap is_get from.kind) last.passes in
       (holds.wait line).after_back g from.place from.get due.some due.last
-      (strictly g from.place later (λ here. no_back line g s.network.ordered from.get (ap (slice_get s.network.ordered) here ∙ from.at) (ap is_get from.kind) last.passes))
-      from.at (ap is_get from.kind) from.same
+      (omega (arith, later, away)) from.at (ap is_get from.kind) from.same
 
   -- or the memory, and no GetM stands between
   memory_since : (line g place : ℕ) → IsDue s line g → g < place → owner line (take place s.network.ordered) ≡ Memory → NoneFrom line (g + 1) place s.network.ordered
@@ -112,7 +109,7 @@ module _ (d : Doc) (s : ChipState) (fits : DocFits d) (holds : ProtocolHolds d s
           | inr away ↦ elim (cases_lt back.place g) [
             | inl earlier ↦ absurd (both_ways (writes_back line s.network.ordered g) (back.last.backs g (omega (arith, earlier)) before) last.passes)
             | inr later ↦ (
-                let less = strictly g back.place later (λ e. away (sym e)) in
+                let less : g < back.place = omega (arith, later, away) in
                 absurd (both_ways (writes_back line s.network.ordered back.place)
                 (last.after back.place less (let within = beyond line back.place back.back in omega (arith, within))) back.back))
           ]

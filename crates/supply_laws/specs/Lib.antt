@@ -1,3 +1,4 @@
 pub mod OpenGets
 pub mod HomeParts
 pub mod Reachable
+pub mod UnitCalls
