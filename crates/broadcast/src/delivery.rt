@@ -31,7 +31,8 @@ pub fn broadcast_posts(alloc: Global, document: &Document) -> Result<OrderedNet,
     ensures chip { IfOk result (λ net. net.chip ≡ chip_of_mesh document.now.mesh) }
     ensures delivers { IfOk result (λ net. DeliversPosts (doc_of document.now) net.network) }
     ensures network { IfOk result (λ net. net.network ≡ broadcast_network (doc_of document.now)) }
-    ensures one_order { IfOk result (λ net. IsOneOrder (chip_of (doc_of document.now)) net.network) }
+    ensures one_order { IfOk result (λ net.
+        IsOneOrder (chip_of (doc_of document.now)) net.network) }
 {
     let mesh = &document.mesh;
     let windows = document.windows();

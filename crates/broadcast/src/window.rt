@@ -12,7 +12,8 @@ use net_iface::OrderedNet;
 
 // Each tile of the set makes a request, where its router has a channel for it.
 fn inject(net: &mut OrderedNet, set: u64)
-    ensures { BeginsWindow (map Inject (filter (has_tile set) (upwards 0 (tile_count net.old.chip)))) net.old net.new }
+    ensures { BeginsWindow
+        (map Inject (filter (has_tile set) (upwards 0 (tile_count net.old.chip)))) net.old net.new }
 {
     for t in 0..net.tiles() {
         if has_tile(set, t) {
@@ -23,7 +24,8 @@ fn inject(net: &mut OrderedNet, set: u64)
 
 // Each tile of the set posts, where it may.
 fn post(net: &mut OrderedNet, set: u64)
-    ensures { BeginsWindow (map Post (filter (has_tile set) (upwards 0 (tile_count net.old.chip)))) net.old net.new }
+    ensures { BeginsWindow
+        (map Post (filter (has_tile set) (upwards 0 (tile_count net.old.chip)))) net.old net.new }
 {
     for t in 0..net.tiles() {
         if has_tile(set, t) {
@@ -47,7 +49,8 @@ fn tick(net: &mut OrderedNet)
 pub(crate) fn pass_window(net: &mut OrderedNet, set: u64)
     requires closed { net.old.network.windows.phase ≡ 0 }
     requires room { length net.old.network.ordered + tile_count net.old.chip ≤ net.old.room }
-    ensures { WindowPasses (window_events net.old.chip (expansion (tile_count net.old.chip) 0 set)) net.old net.new }
+    ensures { WindowPasses
+        (window_events net.old.chip (expansion (tile_count net.old.chip) 0 set)) net.old net.new }
 {
     inject(net, set);
     post(net, set);

@@ -8,10 +8,10 @@ use Rattle.mesh_gen.specs.Grid.{Grid, tiles, neighbour}
 use Rattle.mesh_gen.specs.Ports.{port_number, opposite, has, without_port}
 use Rattle.mesh_gen.specs.PortSets.{bits_of, ports_of}
 use Rattle.mesh_gen.specs.Tree.{tree_outs}
+use Rattle.mesh_gen.specs.Partial.{when, ◌>>=◌}
 use Rattle.vc_bank.specs.Channels.{Channels, empty_channels, lowest_free, reserved_free, normal_slots}
 use Rattle.vc_bank.specs.Places.{Network, at, put}
 use Rattle.chip_model.specs.declared.net_copy.NetCopy.{NetCopy}
-use Rattle.chip_model.specs.Partial.{when, ◌>>=◌}
 
 -- no copy in any router; each port has so many normal channels, and those between routers a reserved one
 abbrev pub no_copies : Grid → ℕ → Network NetCopy

@@ -1,6 +1,7 @@
 -- The events of the chip: each is possible where its guard holds, and does one step.
 use Rattle.std.specs.Prelude.{ℕ, ◌+◌, List, [], ◌∷◌, ◌++◌, Option, Some, None, slice_get, set}
 use Rattle.mesh_gen.specs.declared.port.Port.{Port}
+use Rattle.mesh_gen.specs.Partial.{when, ◌>>=◌}
 use Rattle.report_text.specs.declared.access.Access.{Access}
 use Rattle.report_text.specs.declared.event.Event.{Event}
 use Rattle.report_text.specs.declared.event.Event.TheVariants.{Tick, Core, Inject, Post, Take, Eject, Send, Hop, DataHop, DataEject}
@@ -11,7 +12,6 @@ use Rattle.chip_model.specs.Misses.{wanted}
 use Rattle.chip_model.specs.Node.{Node, after_request_sent, after_message_sent}
 use Rattle.chip_model.specs.Units.{UnitState, Acted, Behaviour}
 use Rattle.chip_model.specs.ChipState.{ChipState}
-use Rattle.chip_model.specs.Partial.{when, ◌>>=◌}
 
 -- the state with a tile's unit replaced
 abbrev pub with_unit : ℕ → UnitState → ChipState → ChipState

@@ -5,6 +5,7 @@ use Rattle.mesh_gen.specs.declared.request.Request.{Request}
 use Rattle.mesh_gen.specs.declared.msg.Msg.{Msg}
 use Rattle.mesh_gen.specs.declared.msg_kind.MsgKind.{MsgKind}
 use Rattle.mesh_gen.specs.declared.msg_kind.MsgKind.TheVariants.{Data, Back}
+use Rattle.mesh_gen.specs.Partial.{when}
 use Rattle.order_tracker.specs.Order.{upwards}
 use Rattle.report_text.specs.Accesses.{writes}
 use Rattle.chip_model.specs.declared.done.Done.{Done}
@@ -16,7 +17,6 @@ use Rattle.chip_model.specs.Cache.{Cache, Held, empty_cache, lookup, has_room, i
 use Rattle.chip_model.specs.Misses.{no_misses, is_written_back, request_for, new_demand, new_back, marked_sent}
 use Rattle.chip_model.specs.Snoop.{CacheSide, with_cache, with_demand, with_back, written_by, done_by, after_snoop, after_data}
 use Rattle.chip_model.specs.Records.{LineRecord, Records, opening_record, answered, back_arrived}
-use Rattle.chip_model.specs.Partial.{when}
 
 -- the chip and the tile; the cache with its misses; the controller's records; the messages to send, the next one first;
 -- and how many requests were delivered to it

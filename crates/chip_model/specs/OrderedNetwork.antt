@@ -5,10 +5,10 @@ use Rattle.mesh_gen.specs.declared.request.Request.{Request}
 use Rattle.mesh_gen.specs.declared.kind.Kind.{Kind}
 use Rattle.mesh_gen.specs.declared.port.Port.{Port}
 use Rattle.mesh_gen.specs.Grid.{neighbour}
+use Rattle.mesh_gen.specs.Partial.{when, ◌>>=◌}
 use Rattle.vc_bank.specs.Places.{Network}
 use Rattle.order_tracker.specs.Order.{expansion, times, order, entry_at}
 use Rattle.chip_model.specs.declared.net_copy.NetCopy.{NetCopy}
-use Rattle.chip_model.specs.Partial.{when, ◌>>=◌}
 use Rattle.chip_model.specs.Chip.{Chip, tile_count}
 use Rattle.chip_model.specs.Windows.{Windows, opening_windows, after_post, after_tick, is_last_tick, after_take}
 use Rattle.chip_model.specs.Copies.{Name, no_copies, after_entry, after_hop, after_serve}

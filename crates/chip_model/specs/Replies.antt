@@ -7,11 +7,11 @@ use Rattle.mesh_gen.specs.declared.port.Port.TheVariants.{L}
 use Rattle.mesh_gen.specs.Grid.{Grid, tiles, neighbour}
 use Rattle.mesh_gen.specs.Ports.{port_number, opposite}
 use Rattle.mesh_gen.specs.Routes.{route}
+use Rattle.mesh_gen.specs.Partial.{when, ◌>>=◌}
 use Rattle.vc_bank.specs.Channels.{empty_channels, lowest_free}
 use Rattle.vc_bank.specs.Places.{Network, at, put}
 use Rattle.chip_model.specs.declared.channel.Channel.{Channel}
 use Rattle.chip_model.specs.Copies.{channels_of}
-use Rattle.chip_model.specs.Partial.{when, ◌>>=◌}
 
 -- no message in any router; each port has so many channels
 abbrev pub no_replies : Grid → ℕ → Network Msg

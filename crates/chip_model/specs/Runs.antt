@@ -1,12 +1,12 @@
 -- Runs: lists of events, each of which is possible in the state that those before it leave.
 use Rattle.std.specs.Prelude.{◌≡◌, Bool, List, [], ◌∷◌, ◌++◌, Option, Some, is_some}
+use Rattle.mesh_gen.specs.Partial.{◌>>=◌}
 use Rattle.report_text.specs.declared.event.Event.{Event}
 use Rattle.doc_text.specs.Doc.{Doc}
 use Rattle.chip_model.specs.Chip.{Chip, chip_of}
 use Rattle.chip_model.specs.Units.{Behaviour}
 use Rattle.chip_model.specs.ChipState.{ChipState, opening}
 use Rattle.chip_model.specs.Events.{step}
-use Rattle.chip_model.specs.Partial.{◌>>=◌}
 
 -- the state with an event in its journal
 abbrev pub noted : Event → ChipState → ChipState

@@ -3,6 +3,7 @@
 use Rattle.std.specs.Prelude.{ℕ, Bool, true, false, not, ◌||◌, List, [], Option, Some, None, is_some, option_map, unwrap_or, if◌then◌else◌}
 use Rattle.mesh_gen.specs.declared.request.Request.{Request}
 use Rattle.mesh_gen.specs.declared.msg.Msg.{Msg}
+use Rattle.mesh_gen.specs.Partial.{when}
 use Rattle.core_isa.specs.declared.instr.Instr.{Instr}
 use Rattle.core_isa.specs.Core.{CoreState, new_core, Effect, Becomes, Loads, Stores, Swaps, Adds, Halts, effect_of, instr_at, loaded, stored}
 use Rattle.report_text.specs.declared.access.Access.{Access}
@@ -13,7 +14,6 @@ use Rattle.chip_model.specs.declared.done.Done.{Done}
 use Rattle.chip_model.specs.declared.pending.Pending.{Pending}
 use Rattle.chip_model.specs.Chip.{Chip, address_in}
 use Rattle.chip_model.specs.Node.{Node, Performed, opening_node, has_entry, node_after_access, node_after_request, node_after_message}
-use Rattle.chip_model.specs.Partial.{when}
 
 -- a store that was done and is not performed yet: how many instructions its core had done before, address and value
 pub record BufferedStore : Type 0 where

@@ -1,7 +1,7 @@
 -- The notification network, window by window: which tiles posted, and what each tile has taken of the merged vectors.
 use Rattle.std.specs.Prelude.{ℕ, ◌+◌, ◌^◌, ◌==◌, Bool, not, ◌&&◌, List, [], ◌∷◌, ◌++◌, length, Option, Some, slice_get, set, replicate, nat_lt, bit_or, if◌then◌else◌}
 use Rattle.mesh_gen.specs.TileSet.{has_tile}
-use Rattle.chip_model.specs.Partial.{when, ◌>>=◌}
+use Rattle.mesh_gen.specs.Partial.{when, ◌>>=◌}
 
 -- the ticks of the open window so far, the set of the tiles that posted in it, the vectors of the closed windows, and of
 -- each tile how many of these it has taken

@@ -38,8 +38,8 @@ pub fn order_laws()
     ensures memory { (programs : List (List Instr)) (flat after : Flat) (accesses : List Access)
         (address : ℕ)
         → 0 < length flat.memory → taken_all programs flat accesses ≡ Some after
-        → slice_index after.memory address ≡ last_written address
-        (slice_index flat.memory address) accesses }
+        → slice_index after.memory address
+        ≡ last_written address (slice_index flat.memory address) accesses }
 
     // An execution is a list in which each core alone makes its own accesses and reads what was written last.
     ensures parts { (programs : List (List Instr)) (memory steps : List ℕ) (accesses : List Access)

@@ -67,8 +67,7 @@ fn perform(program: &Program, core: &mut Core, memory: &mut [u32], access: &Acce
     requires limit { length memory.old ≤ 1024 }
     ensures { MatchBool result
         ((made (length memory.old) program.now core.old access.now
-        (next_of program.now core.old) access.now.kind
-        ≡ Some core.new)
+        (next_of program.now core.old) access.now.kind ≡ Some core.new)
         × (memory_after memory.old access.now ≡ Some memory.new))
         ((made (length memory.old) program.now core.old access.now
         (next_of program.now core.old) access.now.kind ≡ None)

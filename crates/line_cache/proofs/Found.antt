@@ -104,13 +104,13 @@ pub length-placed : (new : Held) (ways : Ways) → length (placed new ways) ≡ 
 length-placed new ways = grind (arith, length-replaced new ways, length-filled new ways)
 
 -- ---- a set whose ways are all empty
-Apart-replicate : (count : ℕ) → IsApart (replicate count None)
-Apart-replicate zero = tt
-Apart-replicate (suc count) = Apart-replicate count
+pub IsApart-replicate : (count : ℕ) → IsApart (replicate count None)
+IsApart-replicate zero = tt
+IsApart-replicate (suc count) = IsApart-replicate count
 
 pub fresh : (count : ℕ) (ways : Ways) → ways ≡ replicate count None → 0 < count → (0 < length ways) × IsApart ways
 fresh zero ways is some = absurd (omega arith)
-fresh (suc count) ways is some = subst (λ (ws : Ways). (0 < length ws) × IsApart ws) (sym is) (omega arith, Apart-replicate count)
+fresh (suc count) ways is some = subst (λ (ws : Ways). (0 < length ws) × IsApart ws) (sym is) (omega arith, IsApart-replicate count)
 
 pub found-replicate : (line count : ℕ) → found line (replicate count None) ≡ None
 found-replicate line zero = refl

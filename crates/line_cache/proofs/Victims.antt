@@ -26,8 +26,8 @@ shared_first held ways shared absent = record {
   shared = shared;
 }
 
-shared_behind_empty : (ways : Ways) (line : ℕ) → Shared ways line → Shared (None ∷ ways) line
-shared_behind_empty ways line is = record {
+shared_after_empty : (ways : Ways) (line : ℕ) → Shared ways line → Shared (None ∷ ways) line
+shared_after_empty ways line is = record {
   dropped = ap (option_map (λ (rest : Ways). None ∷ rest)) is.dropped;
   held = is.held;
   same = is.same;
@@ -35,8 +35,8 @@ shared_behind_empty ways line is = record {
   shared = is.shared;
 }
 
-shared_behind : (held : Held) (ways : Ways) (line : ℕ) → is_shared held.state ≡ false → found held.line ways ≡ None → Shared ways line → Shared (Some held ∷ ways) line
-shared_behind held ways line owned absent is = record {
+shared_after : (held : Held) (ways : Ways) (line : ℕ) → is_shared held.state ≡ false → found held.line ways ≡ None → Shared ways line → Shared (Some held ∷ ways) line
+shared_after held ways line owned absent is = record {
   dropped = grind (arith, nat_tests, is.dropped, is.there);
   held = is.held;
   same = is.same;
@@ -49,11 +49,11 @@ shared_at : (held : Held) (ways : Ways) (line : ℕ) (b : Bool) → is_shared he
 shared_at held ways line true is apart rest lowest_is =
     let same : held.line ≡ line = cc in
     subst (λ (l : ℕ). Shared (Some held ∷ ways) l) same (shared_first held ways is apart.0)
-shared_at held ways line false is apart rest lowest_is = shared_behind held ways line is apart.0 (rest lowest_is)
+shared_at held ways line false is apart rest lowest_is = shared_after held ways line is apart.0 (rest lowest_is)
 
 Shared-lowest_shared : (ways : Ways) (line : ℕ) → IsApart ways → lowest_shared ways ≡ Some line → Shared ways line
 Shared-lowest_shared [] line apart is = cc
-Shared-lowest_shared (None ∷ ways) line apart is = shared_behind_empty ways line (Shared-lowest_shared ways line apart is)
+Shared-lowest_shared (None ∷ ways) line apart is = shared_after_empty ways line (Shared-lowest_shared ways line apart is)
 Shared-lowest_shared (Some held ∷ ways) line apart is = shared_at held ways line (is_shared held.state) refl apart (Shared-lowest_shared ways line apart.1) is
 
 freed-unshared : (ways : Ways) → lowest_shared ways ≡ None → freed ways ≡ None

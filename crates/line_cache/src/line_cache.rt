@@ -50,7 +50,8 @@ impl LineCache {
 
     /// The state and the words of a line. None where the line is not in the cache.
     pub fn lookup(&self, line: u16) -> Option<(State, Words)>
-        ensures copy { (chip : Chip) → HasSets chip self.now → lookup chip self.now line ≡ option_map (copy_of line) result }
+        ensures copy { (chip : Chip) → HasSets chip self.now
+            → lookup chip self.now line ≡ option_map (copy_of line) result }
         ensures fits { IsSome result → Fits self.now line }
     {
         let held = self.sets[self.set_number(line)].found(line)?;
@@ -69,10 +70,14 @@ impl LineCache {
     /// The line has this state and these words from now on.
     pub fn install(&mut self, line: u16, state: State, words: Words)
         requires { Fits self.old line }
-        ensures installed { (chip : Chip) → HasSets chip self.old → self.new ≡ installed chip (copy_of line (state, words)) self.old }
-        ensures there { (chip : Chip) → HasSets chip self.old → lookup chip self.new line ≡ Some (copy_of line (state, words)) }
-        ensures others { (chip : Chip) → HasSets chip self.old → (other : ℕ) → other ≢ line → lookup chip self.new other ≡ lookup chip self.old other }
-        ensures room { (chip : Chip) → HasSets chip self.old → IsSome (lookup chip self.old line) → (other : ℕ) → IsTrue (fits chip self.old other) → IsTrue (fits chip self.new other) }
+        ensures installed { (chip : Chip) → HasSets chip self.old
+            → self.new ≡ installed chip (copy_of line (state, words)) self.old }
+        ensures there { (chip : Chip) → HasSets chip self.old
+            → lookup chip self.new line ≡ Some (copy_of line (state, words)) }
+        ensures others { (chip : Chip) → HasSets chip self.old → (other : ℕ) → other ≢ line
+            → lookup chip self.new other ≡ lookup chip self.old other }
+        ensures room { (chip : Chip) → HasSets chip self.old → IsSome (lookup chip self.old line)
+            → (other : ℕ) → IsTrue (fits chip self.old other) → IsTrue (fits chip self.new other) }
         ensures sets { length self.new ≡ length self.old }
     {
         let set = self.set_number(line);
@@ -81,10 +86,13 @@ impl LineCache {
 
     /// The line is not in the cache from now on.
     pub fn drop_line(&mut self, line: u16)
-        ensures dropped { (chip : Chip) → HasSets chip self.old → self.new ≡ without_line chip line self.old }
+        ensures dropped { (chip : Chip) → HasSets chip self.old
+            → self.new ≡ without_line chip line self.old }
         ensures gone { (chip : Chip) → HasSets chip self.old → lookup chip self.new line ≡ None }
-        ensures others { (chip : Chip) → HasSets chip self.old → (other : ℕ) → other ≢ line → lookup chip self.new other ≡ lookup chip self.old other }
-        ensures room { (chip : Chip) → HasSets chip self.old → (other : ℕ) → IsTrue (fits chip self.old other) → IsTrue (fits chip self.new other) }
+        ensures others { (chip : Chip) → HasSets chip self.old → (other : ℕ) → other ≢ line
+            → lookup chip self.new other ≡ lookup chip self.old other }
+        ensures room { (chip : Chip) → HasSets chip self.old → (other : ℕ)
+            → IsTrue (fits chip self.old other) → IsTrue (fits chip self.new other) }
         ensures sets { length self.new ≡ length self.old }
     {
         let set = self.set_number(line);

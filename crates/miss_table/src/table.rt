@@ -102,7 +102,8 @@ impl MissTable {
     /// The demand's request is delivered here, at the place `g` of the order, and its words are not here.
     pub fn order_at(&mut self, g: u64)
         requires { Holds IsInFlight self.old.demand }
-        ensures { self.new ≡ record self.old { demand = option_map (ordered_at g) self.old.demand } }
+        ensures { self.new
+            ≡ record self.old { demand = option_map (ordered_at g) self.old.demand } }
     {
         if let Some(demand) = &mut self.demand {
             demand.order_at(g);
@@ -112,7 +113,8 @@ impl MissTable {
     /// The demand's words come before its request was delivered here.
     pub fn put_early(&mut self, words: Words)
         requires { Holds LacksWords self.old.demand }
-        ensures { self.new ≡ record self.old { demand = option_map (with_early words) self.old.demand } }
+        ensures { self.new
+            ≡ record self.old { demand = option_map (with_early words) self.old.demand } }
     {
         if let Some(demand) = &mut self.demand {
             demand.put_early(words);
@@ -132,7 +134,8 @@ impl MissTable {
     /// A tile waits for the demand for its words.
     pub fn append(&mut self, tile: u8, kind: Kind)
         requires { Holds (λ demand. TakesOneMore demand LIST_PLACES) self.old.demand }
-        ensures { self.new ≡ record self.old { demand = option_map (followed_by (record { tile = tile; kind = kind })) self.old.demand } }
+        ensures { self.new ≡ record self.old { demand = option_map
+            (followed_by (record { tile = tile; kind = kind })) self.old.demand } }
     {
         if let Some(demand) = &mut self.demand {
             demand.append(tile, kind);

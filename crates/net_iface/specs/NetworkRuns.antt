@@ -23,6 +23,7 @@ pub record History : Type 0 where
   pub network : OrderedNetwork
   pub deliveries : List (ℕ × Request)
 
+-- the history before the first call
 abbrev pub opening_history : Chip → History
 opening_history chip = record { network = opening_network chip; deliveries = [] }
 

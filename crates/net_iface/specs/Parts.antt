@@ -43,9 +43,11 @@ interface_of posts ordered unordered delivered t = record {
   delivered = slice_index delivered t;
 }
 
+-- the interfaces of all tiles
 abbrev pub interfaces_of : ℕ → ℕ → List Request → List (Buffer Request) → List ℕ → List Interface
 interfaces_of tiles posts ordered unordered delivered = map (interface_of posts ordered unordered delivered) (range_with_len 0 tiles)
 
+-- the ordered network that the parts are
 abbrev pub network_of : Parts → OrderedNetwork
 network_of p = record {
   copies = p.routers.copies;
@@ -54,6 +56,7 @@ network_of p = record {
   interfaces = interfaces_of (tile_count p.chip) p.windows.windows.posts p.ordered p.unordered p.delivered;
 }
 
+-- the same with its chip, and with how many requests it has room for
 abbrev pub network_of_parts : Parts → NetworkState
 network_of_parts p = record { chip = p.chip; network = network_of p; room = p.room }
 

@@ -20,6 +20,7 @@ pub record MayTakeIn (vector : ℕ) (tracker : TrackerState) : Type 0 where
   pub room : length tracker.windows < tracker.room
   pub count : tracker.number + length tracker.windows + 1 < 2 ^ 63
 
+-- a tracker with one window more
 abbrev pub with_window : TrackerState → ℕ → TrackerState
 with_window tracker vector = record tracker { windows = tracker.windows ++ vector ∷ [] }
 

@@ -8,17 +8,19 @@ use Rattle.mesh_gen.specs.TileSet.{has_tile}
 abbrev pub unordered_at : List (Buffer Request) → ℕ → Buffer Request
 unordered_at lists t = slice_index_or lists t (buffer [] 0)
 
--- its requests, and the first of them
+-- the requests of a tile that are not ordered
 abbrev pub unordered_of : List (Buffer Request) → ℕ → List Request
 unordered_of lists t = (unordered_at lists t).items
 
+-- the first request of a tile that is not ordered
 abbrev pub lowest_of : List (Buffer Request) → ℕ → Option Request
 lowest_of lists t = slice_get (unordered_of lists t) 0
 
--- a list with one more request, and without its first one
+-- a list with one more request
 abbrev pub with_last : Buffer Request → Request → Buffer Request
 with_last list q = buffer (list.items ++ q ∷ []) list.capacity
 
+-- a list without its first request
 abbrev pub without_first : Buffer Request → Buffer Request
 without_first list = buffer (drop 1 list.items) list.capacity
 

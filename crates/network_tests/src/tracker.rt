@@ -9,7 +9,8 @@ pub(crate) fn pass(tracker: &mut Tracker) -> Option<(u8, u32)>
     ensures tiles { tracker.new.tiles ≡ tracker.old.tiles }
     ensures room { tracker.new.room ≡ tracker.old.room }
     ensures windows { length tracker.new.windows ≤ length tracker.old.windows }
-    ensures pushed { tracker.new.number + length tracker.new.windows ≡ tracker.old.number + length tracker.old.windows }
+    ensures pushed { tracker.new.number + length tracker.new.windows
+        ≡ tracker.old.number + length tracker.old.windows }
 {
     let entry = tracker.expected()?;
     if entry.1 < 1000 {

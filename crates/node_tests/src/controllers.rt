@@ -12,7 +12,8 @@ const BACK: Words = [5, 2, 3, 4];
 
 // The controller of the last of four tiles, which keeps the only line.
 fn open(alloc: Global) -> Result<Controller, NoMemory>
-    ensures { IfOk result (λ controller. controller ≡ Some (opening_record (1 ∷ 2 ∷ 3 ∷ 4 ∷ [])) ∷ []) }
+    ensures { IfOk result (λ controller. controller ≡ Some (opening_record (1 ∷ 2 ∷ 3 ∷ 4 ∷ []))
+        ∷ []) }
 {
     let mut mesh = Mesh::of_size(alloc, 2, 2, 2)?;
     mesh.lines = 1;

@@ -22,6 +22,7 @@ pub record Account : Type 0 where
   pub injected : List Msg
   pub taken : List (ℕ × Msg)
 
+-- the account before the first call
 abbrev pub opening_account : Grid → ℕ → Account
 opening_account g data_vcs = record { messages = no_replies g data_vcs; injected = []; taken = [] }
 
@@ -39,13 +40,15 @@ unfoldable pub account_of : Grid → Account → List ReplyEvent → Option Acco
 account_of g account [] = Some account
 account_of g account (event ∷ events) = accounted g account event >>= (λ next. account_of g next events)
 
--- how many of the messages pass a test: of those in channels, of those that were put in, and of those that were taken
+-- how many of the messages in channels pass a test
 abbrev pub standing_count : (Msg → Bool) → Account → ℕ
 standing_count test account = total (λ msg. count_if (test msg)) account.messages
 
+-- how many of those that were put in pass a test
 abbrev pub injected_count : (Msg → Bool) → Account → ℕ
 injected_count test account = sum_by (λ msg. count_if (test msg)) account.injected
 
+-- how many of those that were taken pass a test
 abbrev pub taken_count : (Msg → Bool) → Account → ℕ
 taken_count test account = sum_by (λ took. count_if (test took.1)) account.taken
 

@@ -33,14 +33,16 @@ impl Model for Replies {
 
     ghost view = { λ replies. record { grid = grid replies.mesh; messages = replies.banks.items } };
 
-    ghost invariant = { λ replies. RepliesFit (record { grid = grid replies.mesh; messages = replies.banks.items })
+    ghost invariant = { λ replies. RepliesFit (record { grid = grid replies.mesh;
+        messages = replies.banks.items })
         × (replies.count ≡ message_count replies.banks.items) };
 }
 
 impl Replies {
     /// The network of a mesh, with no message.
     pub fn open(alloc: Global, mesh: &Mesh) -> Result<Replies, NoMemory>
-        ensures { IfOk result (λ replies. replies ≡ record { grid = grid mesh.now; messages = no_replies (grid mesh.now) mesh.now.data_vcs }) }
+        ensures { IfOk result (λ replies. replies ≡ record { grid = grid mesh.now;
+            messages = no_replies (grid mesh.now) mesh.now.data_vcs }) }
     {
         Ok(Replies {
             mesh: Mesh::of_size(alloc, mesh.cols, mesh.rows, mesh.window)?,
@@ -67,8 +69,10 @@ impl Replies {
         ensures err { OnErr result (after_send self.old.messages r msg ≡ None) }
         ensures kept { OnErr result (self.new ≡ self.old) }
         ensures grid { self.new.grid ≡ self.old.grid }
-        ensures adds { OnOk result ((weight : Msg → ℕ) → total weight self.new.messages ≡ total weight self.old.messages + weight msg) }
-        ensures full { OnErr result ((slot : ℕ) → ¬ IsFree (channels_of self.old.messages r) (port_number Port.L) slot) }
+        ensures adds { OnOk result ((weight : Msg → ℕ)
+            → total weight self.new.messages ≡ total weight self.old.messages + weight msg) }
+        ensures full { OnErr result ((slot : ℕ)
+            → ¬ IsFree (channels_of self.old.messages r) (port_number Port.L) slot) }
     {
         let Some(slot) = free_slot(&self.banks, r, Port::L) else {
             return Err(NoChannel);
@@ -81,12 +85,16 @@ impl Replies {
     /// Moves the message in a channel to the lowest free channel at the port by which its route enters the next router.
     /// Refused exactly where the channel holds no message for another tile, or that port has no free channel.
     pub fn hop(&mut self, r: u8, port: Port, slot: u8) -> Result<(), NotEnabled>
-        ensures ok { OnOk result (after_data_hop self.old.grid self.old.messages r port slot ≡ Some self.new.messages) }
-        ensures err { OnErr result (after_data_hop self.old.grid self.old.messages r port slot ≡ None) }
+        ensures ok { OnOk result (after_data_hop self.old.grid self.old.messages r port slot
+            ≡ Some self.new.messages) }
+        ensures err { OnErr result (after_data_hop self.old.grid self.old.messages r port slot
+            ≡ None) }
         ensures kept { OnErr result (self.new ≡ self.old) }
         ensures grid { self.new.grid ≡ self.old.grid }
-        ensures keeps { (weight : Msg → ℕ) → total weight self.new.messages ≡ total weight self.old.messages }
-        ensures moves { OnOk result (Moves self.old.grid self.old.messages self.new.messages (record { router = r; port = port; slot = slot })) }
+        ensures keeps { (weight : Msg → ℕ)
+            → total weight self.new.messages ≡ total weight self.old.messages }
+        ensures moves { OnOk result (Moves self.old.grid self.old.messages self.new.messages
+            (record { router = r; port = port; slot = slot })) }
     {
         route_laws();
         let Some(msg) = packet_at(&self.banks, r, port, slot) else {
@@ -103,7 +111,8 @@ impl Replies {
     /// Takes the message out of a channel at its own tile. Refused exactly where the channel holds no message for the
     /// tile `r`.
     pub fn eject(&mut self, r: u8, port: Port, slot: u8) -> Result<Msg, NotEnabled>
-        ensures ok { IfOk result (λ msg. after_data_eject self.old.messages r port slot ≡ Some (msg, self.new.messages)) }
+        ensures ok { IfOk result (λ msg.
+            after_data_eject self.old.messages r port slot ≡ Some (msg, self.new.messages)) }
         ensures err { OnErr result (after_data_eject self.old.messages r port slot ≡ None) }
         ensures kept { OnErr result (self.new ≡ self.old) }
         ensures grid { self.new.grid ≡ self.old.grid }
@@ -125,7 +134,8 @@ impl Replies {
     /// Whether no message stands in any channel.
     pub fn is_empty(&self) -> bool
         ensures empty { result ≡ is_empty self.now.messages }
-        ensures none { IsTrue result ↔ ((r port slot : ℕ) → at self.now.messages r port slot ≡ None) }
+        ensures none { IsTrue result ↔ ((r port slot : ℕ)
+            → at self.now.messages r port slot ≡ None) }
         ensures on_routes { AreOnTheirRoutes self.now.grid self.now.messages }
     {
         self.count == 0

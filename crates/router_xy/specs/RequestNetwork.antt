@@ -23,7 +23,7 @@ pub record RequestNetwork : Type 0 where
 abbrev pub IsAbsent : Network NetCopy → Name → Type 0
 IsAbsent net name = (router port slot : ℕ) (copy : NetCopy) → at net router port slot ≡ Some copy → is_named name copy.request ≡ false
 
--- a copy owes a side, a router stands there, and a channel of it takes the copy in
+-- a copy owes an output port, there is a router there, and a channel of it takes the copy in
 pub record IsOpenHop (g : Grid) (net : Network NetCopy) (r : ℕ) (port : Port) (slot : ℕ) (out : Port) (expected : Option Name) (way : Way) : Type 0 where
   pub stands : at net r (port_number port) slot ≡ Some way.copy
   pub owed : owes way.copy out ≡ true

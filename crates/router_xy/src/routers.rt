@@ -32,16 +32,19 @@ impl Model for Routers {
 
     ghost Value = { RequestNetwork };
 
-    ghost view = { λ routers. record { grid = grid routers.mesh; vcs = routers.vcs; copies = routers.banks.items } };
+    ghost view = { λ routers. record { grid = grid routers.mesh; vcs = routers.vcs;
+        copies = routers.banks.items } };
 
-    ghost invariant = { λ routers. RoutersFit (record { grid = grid routers.mesh; vcs = routers.vcs; copies = routers.banks.items }) };
+    ghost invariant = { λ routers. RoutersFit (record { grid = grid routers.mesh; vcs = routers.vcs;
+        copies = routers.banks.items }) };
 }
 
 impl Routers {
     /// The routers of a mesh, with no copy.
     pub fn open(alloc: Global, mesh: &Mesh) -> Result<Routers, NoMemory>
         ensures { IfOk result (λ routers.
-            routers ≡ record { grid = grid mesh.now; vcs = mesh.now.vcs; copies = no_copies (grid mesh.now) mesh.now.vcs }) }
+            routers ≡ record { grid = grid mesh.now; vcs = mesh.now.vcs;
+            copies = no_copies (grid mesh.now) mesh.now.vcs }) }
     {
         Ok(Routers {
             mesh: Mesh::of_size(alloc, mesh.cols, mesh.rows, mesh.window)?,
@@ -66,7 +69,8 @@ impl Routers {
     pub fn inject(&mut self, q: Request) -> Result<(), NoChannel>
         requires source { q.source < tiles self.old.grid }
         requires absent { IsAbsent self.old.copies (name_of q) }
-        ensures ok { OnOk result (after_entry self.old.grid self.old.copies q ≡ Some self.new.copies) }
+        ensures ok { OnOk result (after_entry self.old.grid self.old.copies q
+            ≡ Some self.new.copies) }
         ensures err { OnErr result (after_entry self.old.grid self.old.copies q ≡ None) }
         ensures kept { OnErr result (self.new ≡ self.old) }
         ensures owed { OnOk result (OwesMore self.old.grid q self.old.copies self.new.copies) }
@@ -84,9 +88,9 @@ impl Routers {
         Ok(())
     }
 
-    /// Moves a copy out of a channel by a side that it owes: to the lowest free normal channel at the port by which it
-    /// enters the next router, or to the reserved one if no normal one is free and the request is the one that is
-    /// `expected` there. Refused exactly where the channel holds no copy that owes this side, no router stands there, or
+    /// Moves a copy out of a channel by an output port that it owes: to the lowest free normal channel at the port by
+    /// which it enters the next router, or to the reserved one if no normal one is free and the request is the one that
+    /// is `expected` there. Refused exactly where the channel holds no copy that owes this port, no router is there, or
     /// no such channel is free.
     pub fn hop(
         &mut self,
@@ -96,12 +100,16 @@ impl Routers {
         out: Port,
         expected: Option<(u8, u32)>,
     ) -> Result<(), NotEnabled>
-        ensures ok { OnOk result (after_hop self.old.grid self.old.copies r port slot out expected ≡ Some self.new.copies) }
-        ensures err { OnErr result (after_hop self.old.grid self.old.copies r port slot out expected ≡ None) }
+        ensures ok { OnOk result
+            (after_hop self.old.grid self.old.copies r port slot out expected
+                ≡ Some self.new.copies) }
+        ensures err { OnErr result
+            (after_hop self.old.grid self.old.copies r port slot out expected ≡ None) }
         ensures kept { OnErr result (self.new ≡ self.old) }
         ensures owed { OnOk result (OwesSame self.old.grid self.old.copies self.new.copies) }
         ensures requests { NoneComes self.old.copies self.new.copies }
-        ensures reserved { ReservesExpected self.old.grid self.old.vcs r out expected self.old.copies self.new.copies }
+        ensures reserved { ReservesExpected
+            self.old.grid self.old.vcs r out expected self.old.copies self.new.copies }
         ensures arrived { OnOk result (arrived self.new.copies ≡ arrived self.old.copies + 1) }
         ensures grid { self.new.grid ≡ self.old.grid }
         ensures vcs { self.new.vcs ≡ self.old.vcs }
@@ -162,7 +170,8 @@ impl Routers {
         out: Port,
         expected: Option<(u8, u32)>,
     ) -> bool
-        ensures { result ≡ is_some (after_hop self.now.grid self.now.copies r port slot out expected) }
+        ensures { result
+            ≡ is_some (after_hop self.now.grid self.now.copies r port slot out expected) }
     {
         self.find_hop(r, port, slot, out, expected).is_some()
     }
@@ -186,7 +195,7 @@ impl Routers {
         }
     }
 
-    // The way of a copy out of a channel by a side, where it can go.
+    // The way of a copy out of a channel by an output port, where it can go.
     fn find_hop(
         &self,
         r: u8,
@@ -195,8 +204,10 @@ impl Routers {
         out: Port,
         expected: Option<(u8, u32)>,
     ) -> Option<Way>
-        ensures some { IfSome result (λ way. IsOpenHop self.now.grid self.now.copies r port slot out expected way) }
-        ensures none { IfNone result (after_hop self.now.grid self.now.copies r port slot out expected ≡ None) }
+        ensures some { IfSome result (λ way.
+            IsOpenHop self.now.grid self.now.copies r port slot out expected way) }
+        ensures none { IfNone result
+            (after_hop self.now.grid self.now.copies r port slot out expected ≡ None) }
     {
         let Some(copy) = packet_at(&self.banks, r, port, slot) else {
             return None;

@@ -92,9 +92,9 @@ record Freed (ways rest : Ways) : Type 0 where
 freed-nothing : (ways rest : Ways) → Freed ways rest → Freed (None ∷ ways) (None ∷ rest)
 freed-nothing ways rest is = record { was = is.was; shared = is.shared; there = is.there; left = ap (λ (ws : Ways). None ∷ ws) is.left }
 
-freed-behind : (held : Held) (ways rest : Ways) → found held.line ways ≡ None → Freed ways rest
+freed-after : (held : Held) (ways rest : Ways) → found held.line ways ≡ None → Freed ways rest
     → Freed (Some held ∷ ways) (Some held ∷ rest)
-freed-behind held ways rest absent is = record {
+freed-after held ways rest absent is = record {
   was = is.was;
   shared = is.shared;
   there = grind (arith, nat_tests, is.there);
@@ -118,7 +118,7 @@ freed_by held ways rest true shared apart below is =
     subst (λ (r : Ways). Freed (Some held ∷ ways) r) same (freed-here held ways shared apart.0)
 freed_by held ways rest false shared apart below is =
     option_map_some (λ (r : Ways). Some held ∷ r) (freed ways) rest is (λ r freed_is same.
-    subst (λ (x : Ways). Freed (Some held ∷ ways) x) same (freed-behind held ways r apart.0 (below r freed_is)))
+    subst (λ (x : Ways). Freed (Some held ∷ ways) x) same (freed-after held ways r apart.0 (below r freed_is)))
 
 freed_is : (ways rest : Ways) → IsApart ways → freed ways ≡ Some rest → Freed ways rest
 freed_is [] rest apart is = cc

@@ -184,10 +184,10 @@ memory_sends q r GetS = record { count = omega arith; backs = refl }
 memory_sends q r GetM = record { count = omega arith; backs = refl }
 memory_sends q r PutM = record { count = omega arith; backs = refl }
 
-behind_sends : (q : Request) (r : LineRecord) (kind : Kind) → SendsData 1 (awaiting_write_back q r kind).sends
-behind_sends q r GetS = record { count = omega arith; backs = refl }
-behind_sends q r GetM = record { count = omega arith; backs = refl }
-behind_sends q r PutM = record { count = omega arith; backs = refl }
+after_sends : (q : Request) (r : LineRecord) (kind : Kind) → SendsData 1 (awaiting_write_back q r kind).sends
+after_sends q r GetS = record { count = omega arith; backs = refl }
+after_sends q r GetM = record { count = omega arith; backs = refl }
+after_sends q r PutM = record { count = omega arith; backs = refl }
 
 tile_sends : (q : Request) (r : LineRecord) (tile : ℕ) (kind : Kind) → SendsData 1 (owned_by_tile q r tile kind).sends
 tile_sends q r tile GetS = record { count = omega arith; backs = refl }
@@ -198,7 +198,7 @@ owner_sends : (q : Request) (r : LineRecord) (owner : Owner) → SendsData 1 (an
 owner_sends q r Memory =
     cond_both r.fresh (from_memory q r q.kind) (awaiting_write_back q r q.kind) (λ answer. SendsData 1 answer.sends)
     (λ fresh. memory_sends q r q.kind)
-    (λ stale. behind_sends q r q.kind)
+    (λ stale. after_sends q r q.kind)
 owner_sends q r (Tile tile) = tile_sends q r tile q.kind
 
 record_sends : (q : Request) (records : Records) (o : Option LineRecord) → SendsData 1 (answered_at q records o).sends

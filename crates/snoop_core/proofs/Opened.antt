@@ -9,7 +9,7 @@ use Rattle.chip_model.specs.Cache.{Ways, found, empty_cache, lookup}
 use Rattle.chip_model.specs.Records.{LineRecord, Records}
 use Rattle.chip_model.specs.Node.{opening_records, opening_node}
 use Rattle.chip_model.specs.NodeShape.{IsApart, IsCache, SideFits, NodeFits}
-use Rattle.line_cache.proofs.Found.{found-replicate}
+use Rattle.line_cache.proofs.Found.{IsApart-replicate, found-replicate}
 use Rattle.mem_ctrl.specs.Owners.{KeepsHomes}
 use Rattle.mem_ctrl.proofs.Opened.{opened_homes}
 use Rattle.snoop_core.specs.ChipSides.{ChipSide, opening_side}
@@ -22,10 +22,6 @@ empty_set : (sets count k : ℕ) (P : Ways → Type 0) → P [] → P (replicate
 empty_set zero count k P past inside = past
 empty_set (suc sets) count zero P past inside = inside
 empty_set (suc sets) count (suc k) P past inside = empty_set sets count k P past inside
-
-IsApart-replicate : (count : ℕ) → IsApart (replicate count None)
-IsApart-replicate zero = tt
-IsApart-replicate (suc count) = IsApart-replicate count
 
 ways_of_empty : (sets count k : ℕ) (ways : Ways) → slice_get (replicate sets (replicate count None)) k ≡ Some ways → length ways ≡ count
 ways_of_empty zero count k ways is = cc

@@ -38,7 +38,8 @@ impl Node {
         ensures free { result ≢ Plan.Refuse → IsNone self.now.side.misses.demand }
         ensures apart { StartsMiss result → is_written_back line self.now.side.misses.back ≡ false }
         ensures alone { StartsBack result → IsNone self.now.side.misses.back }
-        ensures there { (words : List ℕ) → result ≡ Plan.HitStore words → Fits self.now.side.cache line }
+        ensures there { (words : List ℕ) → result ≡ Plan.HitStore words
+            → Fits self.now.side.cache line }
     {
         if self.has_entry() {
             return Plan::Refuse;
@@ -59,7 +60,8 @@ impl Node {
     // What a write to a copy with these words comes to: a copy that others may share has to be asked for.
     fn plan_store(&self, line: u16, state: State, words: Words) -> Plan
         ensures plan { (access : Access) → line_of access.address ≡ line
-            → store_to access (copy_of line (state, words)) self.now state ≡ planned result access self.now }
+            → store_to access (copy_of line (state, words)) self.now state
+                ≡ planned result access self.now }
         ensures apart { StartsMiss result → is_written_back line self.now.side.misses.back ≡ false }
         ensures alone { StartsBack result → IsNone self.now.side.misses.back }
     {
@@ -72,7 +74,9 @@ impl Node {
     // A copy that others may share is asked for, unless the line is being written back.
     fn plan_upgrade(&self, line: u16) -> Plan
         ensures plan { (access : Access) → line_of access.address ≡ line
-            → unless_written_back access self.now (Some (demand_started access self.now.side self.now)) ≡ planned result access self.now }
+            → unless_written_back access self.now
+                (Some (demand_started access self.now.side self.now))
+            ≡ planned result access self.now }
         ensures apart { StartsMiss result → is_written_back line self.now.side.misses.back ≡ false }
         ensures alone { StartsBack result → IsNone self.now.side.misses.back }
         ensures no_hit { (words : List ℕ) → result ≢ Plan.HitStore words }
@@ -88,7 +92,8 @@ impl Node {
     // the write-back has ended.
     fn plan_absent(&self, line: u16) -> Plan
         ensures plan { (access : Access) → line_of access.address ≡ line
-            → unless_written_back access self.now (missed access self.now) ≡ planned result access self.now }
+            → unless_written_back access self.now (missed access self.now)
+                ≡ planned result access self.now }
         ensures apart { StartsMiss result → is_written_back line self.now.side.misses.back ≡ false }
         ensures alone { StartsBack result → IsNone self.now.side.misses.back }
         ensures no_hit { (words : List ℕ) → result ≢ Plan.HitStore words }
@@ -102,7 +107,8 @@ impl Node {
 
     // What a miss comes to.
     fn plan_miss(&self, line: u16) -> Plan
-        ensures plan { (access : Access) → line_of access.address ≡ line → missed access self.now ≡ planned result access self.now }
+        ensures plan { (access : Access) → line_of access.address ≡ line
+            → missed access self.now ≡ planned result access self.now }
         ensures alone { StartsBack result → IsNone self.now.side.misses.back }
         ensures no_hit { (words : List ℕ) → result ≢ Plan.HitStore words }
     {
@@ -117,7 +123,8 @@ impl Node {
     // while the words of one are still to be sent.
     fn plan_back(&self, line: u16) -> Plan
         ensures plan { (access : Access)
-            → back_started self.now (lookup self.now.chip self.now.side.cache line) ≡ planned result access self.now }
+            → back_started self.now (lookup self.now.chip self.now.side.cache line)
+                ≡ planned result access self.now }
         ensures alone { StartsBack result → IsNone self.now.side.misses.back }
         ensures no_hit { (words : List ℕ) → result ≢ Plan.HitStore words }
     {

@@ -78,7 +78,8 @@ fn keep_stored(cache: &mut LineCache, line: u16, words: Words, list: &ForwardLis
 fn keep_loaded(cache: &mut LineCache, line: u16, words: Words, once: bool)
     requires { Fits cache.old line }
     ensures kept { (chip : Chip) → HasSets chip cache.old
-        → cache.new ≡ (if once then cache.old else installed chip (copy_of line (State.S, words)) cache.old) }
+        → cache.new ≡ (if once then cache.old else installed chip
+            (copy_of line (State.S, words)) cache.old) }
     ensures sets { length cache.new ≡ length cache.old }
 {
     if !once {
@@ -99,9 +100,12 @@ impl Snooper {
         requires sent { Holds IsSentDemand self.old.side.misses.demand }
         requires fits { Fits self.old.side.cache line }
         requires place { place + 1 < 2 ^ 64 }
-        requires room { length out.old + length (list_of self.old.side.misses.demand) ≤ QUEUE_PLACES }
-        ensures side { (demand : Demand) → self.old.side.misses.demand ≡ Some demand → demand.line ≡ line → demand.pending ≡ pending
-            → self.new ≡ after_outcome (completed_store self.old.chip demand place words self.old.side) self.old }
+        requires room { length out.old + length (list_of self.old.side.misses.demand)
+            ≤ QUEUE_PLACES }
+        ensures side { (demand : Demand) → self.old.side.misses.demand ≡ Some demand
+            → demand.line ≡ line → demand.pending ≡ pending
+            → self.new ≡ after_outcome
+                (completed_store self.old.chip demand place words self.old.side) self.old }
         ensures sent { (demand : Demand) → self.old.side.misses.demand ≡ Some demand
             → out.new ≡ out.old ++ data_to_all line (written_by pending words) demand.list }
         ensures done { result ≡ done_by pending (place + 1) words }
@@ -125,8 +129,10 @@ impl Snooper {
         requires sent { Holds IsSentDemand self.old.side.misses.demand }
         requires fits { Fits self.old.side.cache line }
         requires place { place + 1 < 2 ^ 64 }
-        ensures side { (demand : Demand) → self.old.side.misses.demand ≡ Some demand → demand.line ≡ line → demand.once ≡ once
-            → self.new ≡ after_outcome (completed_load self.old.chip demand place words self.old.side) self.old }
+        ensures side { (demand : Demand) → self.old.side.misses.demand ≡ Some demand
+            → demand.line ≡ line → demand.once ≡ once
+            → self.new ≡ after_outcome
+                (completed_load self.old.chip demand place words self.old.side) self.old }
         ensures done { result ≡ done_by pending (place + 1) words }
     {
         let _ = self.misses.finish_demand();

@@ -66,7 +66,8 @@ impl Node {
     pub fn open(alloc: Global, mesh: &Mesh, tile: u8, memory: &[u32]) -> Result<Node, NoMemory>
         requires tile { tile < tile_count (chip_of_mesh mesh.now) }
         requires memory { length memory.now ≡ 4 * mesh.now.lines }
-        ensures { IfOk result (λ node. node ≡ opening_node (chip_of_mesh mesh.now) tile memory.now) }
+        ensures { IfOk result (λ node.
+            node ≡ opening_node (chip_of_mesh mesh.now) tile memory.now) }
     {
         Ok(Node {
             snooper: Snooper::open(alloc, mesh)?,
@@ -87,7 +88,9 @@ impl Node {
     /// Whether an access is possible now. What a write would write does not matter.
     pub fn can_access(&self, kind: AccessKind, address: u32, _value: u32) -> bool
         requires { address < 4 * self.now.chip.lines }
-        ensures { (value : ℕ) → result ≡ is_some (node_after_access (record { kind = kind; address = address; value = value }) self.now) }
+        ensures { (value : ℕ)
+            → result ≡ is_some (node_after_access
+                (record { kind = kind; address = address; value = value }) self.now) }
     {
         match self.plan(kind, self.snooper.line_of(address)) {
             Plan::Refuse => false,
@@ -109,10 +112,13 @@ impl Node {
     ) -> Result<Outcome, NotEnabled>
         requires { address < 4 * self.old.chip.lines }
         ensures ok { IfOk result (λ outcome.
-            node_after_access (record { kind = kind; address = address; value = value }) self.old ≡ Some (self.new, access_performed outcome)) }
-        ensures err { OnErr result (node_after_access (record { kind = kind; address = address; value = value }) self.old ≡ None) }
+            node_after_access (record { kind = kind; address = address; value = value }) self.old
+                ≡ Some (self.new, access_performed outcome)) }
+        ensures err { OnErr result (node_after_access
+            (record { kind = kind; address = address; value = value }) self.old ≡ None) }
         ensures kept { OnErr result (self.new ≡ self.old) }
-        ensures owners { (line : ℕ) → owns self.new.chip self.new.side line ≡ owns self.old.chip self.old.side line }
+        ensures owners { (line : ℕ)
+            → owns self.new.chip self.new.side line ≡ owns self.old.chip self.old.side line }
     {
         let line = self.snooper.line_of(address);
         let pending = Pending {
@@ -161,7 +167,8 @@ impl Node {
     pub fn mark_sent(&mut self)
         requires { IsSome (wanted self.old.side.misses) }
         ensures sent { self.new ≡ after_request_sent self.old }
-        ensures owners { (line : ℕ) → owns self.new.chip self.new.side line ≡ owns self.old.chip self.old.side line }
+        ensures owners { (line : ℕ)
+            → owns self.new.chip self.new.side line ≡ owns self.old.chip self.old.side line }
     {
         self.snooper.mark_sent();
     }
@@ -174,13 +181,17 @@ impl Node {
         requires count { self.old.delivered + 1 < 2 ^ 63 }
         requires own { OwnRequestFits self.old.tile self.old.side q }
         requires list { ListHasRoom LIST_PLACES self.old.chip self.old.tile self.old.side q }
-        requires waiting { (r : LineRecord) → record_of self.old.records q.line ≡ Some r → TakesRequest q LIST_PLACES r }
+        requires waiting { (r : LineRecord) → record_of self.old.records q.line ≡ Some r
+            → TakesRequest q LIST_PLACES r }
         requires room { length (node_after_request q self.old).0.out ≤ QUEUE_PLACES }
         ensures node { self.new ≡ (node_after_request q self.old).0 }
         ensures done { result ≡ (node_after_request q self.old).1 }
-        ensures owners { (line : ℕ) (owner : Owner) → owns self.old.chip self.old.side line ≡ is_tile self.old.tile owner
-            → owns self.new.chip self.new.side line ≡ is_tile self.new.tile (owner_after line owner q) }
-        ensures records { (line : ℕ) → owner_in self.new.records line ≡ next_owner line q (owner_in self.old.records line) }
+        ensures owners { (line : ℕ) (owner : Owner)
+            → owns self.old.chip self.old.side line ≡ is_tile self.old.tile owner
+            → owns self.new.chip self.new.side line
+                ≡ is_tile self.new.tile (owner_after line owner q) }
+        ensures records { (line : ℕ)
+            → owner_in self.new.records line ≡ next_owner line q (owner_in self.old.records line) }
     {
         let done = self
             .snooper
@@ -199,8 +210,10 @@ impl Node {
         requires room { length (node_after_message msg self.old).0.out ≤ QUEUE_PLACES }
         ensures node { self.new ≡ (node_after_message msg self.old).0 }
         ensures done { result ≡ (node_after_message msg self.old).1 }
-        ensures owners { (line : ℕ) → owns self.new.chip self.new.side line ≡ owns self.old.chip self.old.side line }
-        ensures records { (line : ℕ) → owner_in self.new.records line ≡ owner_in self.old.records line }
+        ensures owners { (line : ℕ)
+            → owns self.new.chip self.new.side line ≡ owns self.old.chip self.old.side line }
+        ensures records { (line : ℕ)
+            → owner_in self.new.records line ≡ owner_in self.old.records line }
     {
         match msg.kind {
             MsgKind::Data => self.snooper.on_data(msg.words, &mut self.out),
@@ -252,7 +265,8 @@ impl Node {
     /// another tile.
     pub fn home_record(&self, line: u16) -> Option<(Owner, Words, bool)>
         ensures record { option_map told_of (record_of self.now.records line) ≡ result }
-        ensures none { line < self.now.chip.lines → (IsNone result ↔ (home self.now.chip line ≢ self.now.tile)) }
+        ensures none { line < self.now.chip.lines
+            → (IsNone result ↔ (home self.now.chip line ≢ self.now.tile)) }
     {
         self.controller.home_record(line)
     }

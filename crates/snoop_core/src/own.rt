@@ -94,9 +94,12 @@ impl Snooper {
         requires line { q.line < self.old.chip.lines }
         requires list { ListHasRoom LIST_PLACES self.old.chip tile self.old.side q }
         requires place { place + 1 < 2 ^ 64 }
-        requires room { length (out.old ++ (after_snoop self.old.chip tile self.old.side place q).sends) ≤ QUEUE_PLACES }
-        ensures side { self.new ≡ after_outcome (after_snoop self.old.chip tile self.old.side place q) self.old }
-        ensures sent { out.new ≡ out.old ++ (after_snoop self.old.chip tile self.old.side place q).sends }
+        requires room { length (out.old
+            ++ (after_snoop self.old.chip tile self.old.side place q).sends) ≤ QUEUE_PLACES }
+        ensures side { self.new ≡ after_outcome
+            (after_snoop self.old.chip tile self.old.side place q) self.old }
+        ensures sent { out.new ≡ out.old
+            ++ (after_snoop self.old.chip tile self.old.side place q).sends }
         ensures done { result ≡ (after_snoop self.old.chip tile self.old.side place q).done }
     {
         if q.source != tile {
@@ -114,13 +117,18 @@ impl Snooper {
 
     /// The words of the demand come.
     pub(crate) fn on_data(&mut self, words: Words, out: &mut OutQueue) -> Option<Done>
-        requires sent { (demand : Demand) → self.old.side.misses.demand ≡ Some demand → IsTrue demand.sent }
-        requires wordless { (demand : Demand) → self.old.side.misses.demand ≡ Some demand → demand.early ≡ None }
+        requires sent { (demand : Demand) → self.old.side.misses.demand ≡ Some demand
+            → IsTrue demand.sent }
+        requires wordless { (demand : Demand) → self.old.side.misses.demand ≡ Some demand
+            → demand.early ≡ None }
         requires side { SideFits self.old.chip self.old.side }
-        requires place { (demand : Demand) (place : ℕ) → self.old.side.misses.demand ≡ Some demand → demand.ordered ≡ Some place
+        requires place { (demand : Demand) (place : ℕ) → self.old.side.misses.demand ≡ Some demand
+            → demand.ordered ≡ Some place
             → place + 1 < 2 ^ 64 }
-        requires room { length (out.old ++ (after_data self.old.chip self.old.side words).sends) ≤ QUEUE_PLACES }
-        ensures side { self.new ≡ after_outcome (after_data self.old.chip self.old.side words) self.old }
+        requires room { length (out.old ++ (after_data self.old.chip self.old.side words).sends)
+            ≤ QUEUE_PLACES }
+        ensures side { self.new ≡ after_outcome
+            (after_data self.old.chip self.old.side words) self.old }
         ensures sent { out.new ≡ out.old ++ (after_data self.old.chip self.old.side words).sends }
         ensures done { result ≡ (after_data self.old.chip self.old.side words).done }
     {

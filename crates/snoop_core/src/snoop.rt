@@ -31,8 +31,10 @@ pub(crate) enum Holding {
 
 // What a node has for a line of which it has no owned copy.
 fn unowned(back: Option<BackLook>, demand: Option<DemandLook>, line: u16, shared: bool) -> Holding
-    ensures { (misses : Misses) → back ≡ option_map back_look misses.back → demand ≡ option_map demand_look misses.demand
-        → result ≡ told (holding_unowned shared (live_for line misses.back) (ordered_for line misses.demand)) }
+    ensures { (misses : Misses) → back ≡ option_map back_look misses.back
+        → demand ≡ option_map demand_look misses.demand
+        → result ≡ told (holding_unowned shared (live_for line misses.back)
+            (ordered_for line misses.demand)) }
 {
     match back {
         Some(back) if back.live && back.line == line => Holding::LiveBack(back.words),
@@ -111,7 +113,8 @@ impl Snooper {
         requires side { SideFits self.old.chip self.old.side }
         requires room { length (out.old ++ (met_by q self.old).sends) ≤ QUEUE_PLACES }
         requires list { q.kind ≢ Kind.PutM → (demand : Demand)
-            → holding self.old.chip self.old.side q.line ≡ OpenWrite demand → length demand.list < LIST_PLACES }
+            → holding self.old.chip self.old.side q.line ≡ OpenWrite demand
+            → length demand.list < LIST_PLACES }
         ensures side { self.new ≡ after_outcome (met_by q self.old) self.old }
         ensures sent { out.new ≡ out.old ++ (met_by q self.old).sends }
     {

@@ -79,7 +79,8 @@ impl Snooper {
 
     // The state and the words of a line in the cache.
     pub(crate) fn lookup(&self, line: u16) -> Option<(State, Words)>
-        ensures copy { lookup self.now.chip self.now.side.cache line ≡ option_map (copy_of line) result }
+        ensures copy { lookup self.now.chip self.now.side.cache line
+            ≡ option_map (copy_of line) result }
         ensures fits { IsSome result → Fits self.now.side.cache line }
     {
         self.cache.lookup(line)
@@ -153,7 +154,8 @@ impl Snooper {
     pub(crate) fn write(&mut self, line: u16, words: Words)
         requires { Fits self.old.side.cache line }
         ensures { self.new ≡ record self.old {
-          side = with_cache (installed self.old.chip (copy_of line (State.M, words)) self.old.side.cache) self.old.side;
+          side = with_cache (installed self.old.chip
+              (copy_of line (State.M, words)) self.old.side.cache) self.old.side;
         } }
     {
         self.cache.install(line, State::M, words);
@@ -171,7 +173,8 @@ impl Snooper {
         requires none { IsNone self.old.side.misses.demand }
         requires apart { is_written_back line self.old.side.misses.back ≡ false }
         ensures { self.new ≡ record self.old {
-          side = with_demand (Some (new_demand (request_for pending.kind) line pending)) self.old.side;
+          side = with_demand
+              (Some (new_demand (request_for pending.kind) line pending)) self.old.side;
         } }
     {
         self.misses
@@ -183,7 +186,8 @@ impl Snooper {
         requires demand { IsNone self.old.side.misses.demand }
         requires none { IsNone self.old.side.misses.back }
         ensures { self.new ≡ record self.old {
-          side = with_back (Some (new_back line words)) (line_gone self.old.chip line self.old.side);
+          side = with_back (Some (new_back line words))
+              (line_gone self.old.chip line self.old.side);
         } }
     {
         self.cache.drop_line(line);
