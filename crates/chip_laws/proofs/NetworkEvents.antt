@@ -35,7 +35,7 @@ pub record NetworkLaws : Type 0 where
   pub no_message : (chip : Chip) → MessagesHold chip (no_replies chip.grid chip.data_vcs)
   pub sent : (chip : Chip) (old new : Network Msg) (t : ℕ) (msg : Msg) → MessagesHold chip old → MessageFits chip msg → after_send old t msg ≡ Some new → MessagesHold chip new
   pub moved : (chip : Chip) (old new : Network Msg) (r : ℕ) (port : Port) (slot : ℕ) → MessagesHold chip old → after_data_hop chip.grid old r port slot ≡ Some new → MessagesHold chip new
-  pub came : (chip : Chip) (old new : Network Msg) (t : ℕ) (port : Port) (slot : ℕ) (msg : Msg) → MessagesHold chip old → after_data_eject old t port slot ≡ Some (msg, new) → MessageCame chip t msg new
+  pub came : (chip : Chip) (old new : Network Msg) (t : ℕ) (port : Port) (slot : ℕ) (msg : Msg) → MessagesHold chip old → after_data_eject old t port slot ≡ Some (msg, new) → MessageCame chip msg new
 
 -- the two networks, each by itself
 joined : (d : Doc) (s : ChipState) → OrderedNetworkHolds (chip_of d) s.network → MessagesHold (chip_of d) s.replies → NetworkHolds d s

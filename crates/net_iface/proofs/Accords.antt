@@ -22,11 +22,11 @@ use Rattle.chip_model.specs.Bookkeeping.{AreMadeBy, count_by_tile}
 use Rattle.chip_model.specs.CopiesOwed.{HasCopies, NoneComes, ComesAlone}
 use Rattle.chip_model.specs.NetworkFits.{requests_of}
 use Rattle.net_iface.specs.OneOrder.{IsOneOrder}
-use Rattle.net_iface.proofs.Binds.{bind, bind_eq, made}
+use Rattle.net_iface.proofs.Binds.{bind_eq, made}
 use Rattle.net_iface.proofs.Named.{slice_get_grown, slice_get-append_right, AreMadeBy-push, AreMadeBy-front}
 use Rattle.net_iface.proofs.Places.{same_some, item_at, slice_get-set_same, slice_get-set_other}
-use Rattle.net_iface.proofs.Posts.{may_parts, counted}
-use Rattle.net_iface.proofs.Steps.{post_is}
+use Rattle.window_core.proofs.Holds.{post_is, take_is}
+use Rattle.net_iface.proofs.Posts.{counted}
 
 -- a tile's requests stand in the order in their own order, it has posted for those, and for one more where it posted in
 -- the open window, and has delivered no more than there are
@@ -109,15 +109,6 @@ EntersAlone = (g : Grid) (old new : Network NetCopy) (q : Request) → after_ent
 abbrev pub HopsWithNone : Type 0
 HopsWithNone = (g : Grid) (old new : Network NetCopy) (r : ℕ) (port : Port) (slot : ℕ) (out : Port) (expected : Option Name) → after_hop g old r port slot out expected ≡ Some new → NoneComes old new
 
--- a vector that is taken leaves the posts and the closed windows
-taken_same : (w next : Windows) (t : ℕ) → after_take w t ≡ Some next → (next.posts ≡ w.posts) × (next.closed ≡ w.closed)
-unfolding after_take
-taken_same w next t =
-    bind (λ (v : Windows). (v.posts ≡ w.posts) × (v.closed ≡ w.closed)) (slice_get w.taken t) _
-    (λ count last done. bind (λ (v : Windows). (v.posts ≡ w.posts) × (v.closed ≡ w.closed)) (slice_get w.closed count) _
-    (λ vector n is. made (λ (v : Windows). (v.posts ≡ w.posts) × (v.closed ≡ w.closed)) (record w { taken = set w.taken t (count + 1) }) n (refl, refl) is) last done)
-    next
-
 module _ (chip : Chip) (net : OrderedNetwork) (accords : Accords chip net) where
   one_more_made : (t : ℕ) (kind : Kind) (line : ℕ) (interface : Interface) → slice_get net.interfaces t ≡ Some interface
       → Agrees net.ordered net.windows.posts t (record interface { made = interface.made ++ next_request t interface kind line ∷ [] })
@@ -174,10 +165,10 @@ module _ (chip : Chip) (net : OrderedNetwork) (accords : Accords chip net) where
       kept : (interface : Interface) → slice_get net.interfaces t ≡ Some interface → interface.posted < length interface.made → (windows : Windows) → after_post net.windows t ≡ Some windows
           → Keeps chip net (with_interface (record net { windows = windows }) t (record interface { posted = interface.posted + 1 }))
       kept interface there more windows posts =
-          let post = post_is net.windows t windows posts in
-          let fresh = (may_parts net.windows t post.may).fresh in
-          let set_is : bit_or (2 ^ t) net.windows.posts ≡ windows.posts = ap (λ (w : Windows). w.posts) post.is in
-          let closed_is : net.windows.closed ≡ windows.closed = ap (λ (w : Windows). w.closed) post.is in
+          let post = post_is t net.windows windows posts in
+          let fresh = post.fresh in
+          let set_is : bit_or (2 ^ t) net.windows.posts ≡ windows.posts = ap (λ (w : Windows). w.posts) (sym post.is) in
+          let closed_is : net.windows.closed ≡ windows.closed = ap (λ (w : Windows). w.closed) (sym post.is) in
           let has : (u : ℕ) → has_tile windows.posts u ≡ ((t == u) || has_tile net.windows.posts u) = λ u.
           ap (λ (s : ℕ). has_tile s u) (sym set_is) ∙ has_tile-or (2 ^ t) net.windows.posts u ∙ ap (λ (b : Bool). b || has_tile net.windows.posts u) (has_tile-one t u)
           in
@@ -236,7 +227,7 @@ module _ (chip : Chip) (net : OrderedNetwork) (accords : Accords chip net) where
   unfolding after_vector_take
   keeps-take t new is =
       bind_eq (Keeps chip net) (after_take net.windows t) _
-      (λ windows takes y is. made (Keeps chip net) _ y (let same = taken_same net.windows windows t takes in carried net.copies windows (λ q on. on) same.0 same.1) is) new is
+      (λ windows takes y is. made (Keeps chip net) _ y (let same = take_is t net.windows windows takes in carried net.copies windows (λ q on. on) (ap (λ (w : Windows). w.posts) same.is) (ap (λ (w : Windows). w.closed) same.is)) is) new is
 
   pub keeps-hop : HopsWithNone → (r : ℕ) (port : Port) (slot : ℕ) (out : Port) (new : OrderedNetwork) → after_copy_hop chip net r port slot out ≡ Some new → Keeps chip net new
   unfolding after_copy_hop

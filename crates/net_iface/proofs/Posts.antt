@@ -1,33 +1,23 @@
 -- A tile posts where it has a request that is not ordered.
-use Rattle.std.proofs.Common.{◌≡◌, ◌≢◌, ℕ, ◌+◌, ◌<◌, ◌^◌, Bool, true, false, cond, not, ◌&&◌, ◌||◌, ◌==◌, List, length, set, Option, Some, None, refl, sym, ◌∙◌, ap, inl, inr, arith, length-append, bit_or, map}
+use Rattle.std.proofs.Common.{◌≡◌, ◌≢◌, ℕ, ◌+◌, ◌<◌, ◌^◌, Bool, true, false, cond, ◌||◌, ◌==◌, List, length, set, Option, Some, None, refl, sym, ◌∙◌, ap, inl, inr, arith, length-append, bit_or, map}
 use Rattle.std.specs.Prelude.{slice_index, nat_lt, is_some}
 use Rattle.std.specs.List.{range_with_len}
-use Rattle.std.proofs.lemmas.Bool.{cases_lt, and_parts, not-true, lt-ltb, le-ltb, ltb-true, ne_eqb, eq-eqb}
+use Rattle.std.proofs.lemmas.Bool.{cases_lt, lt-ltb, le-ltb, ne_eqb, eq-eqb}
 use Rattle.mesh_gen.specs.TileSet.{has_tile}
 use Rattle.mesh_gen.proofs.TileSets.{has_tile-or, has_tile-one}
 use Rattle.chip_model.specs.Chip.{tile_count}
-use Rattle.chip_model.specs.Windows.{Windows, may_post, after_post}
+use Rattle.chip_model.specs.Windows.{Windows, after_post}
 use Rattle.chip_model.specs.OrderedNetwork.{Interface, with_interface, after_request_post}
 use Rattle.chip_model.specs.Bookkeeping.{count_by_tile}
 use Rattle.window_core.specs.Windows.{WindowsState}
+use Rattle.window_core.proofs.Holds.{post_is}
 use Rattle.chip_model.specs.NetworkFits.{requests_of}
 use Rattle.net_iface.specs.Unordered.{unordered_of}
 use Rattle.net_iface.specs.Parts.{Parts, requests_of_tile, interface_of, network_of, AreSized}
 use Rattle.net_iface.proofs.Named.{length-requests_of}
 use Rattle.net_iface.proofs.Interfaces.{as_interface, other_at}
 use Rattle.net_iface.proofs.Expected.{interface_at, no_interface}
-use Rattle.net_iface.proofs.Steps.{post_is, after_request_post-no_tile, after_request_post-all, after_request_post-refused, is_some-after_request_post}
-
--- a tile that may post is one, and has not posted
-pub record MayPost (w : Windows) (t : ℕ) : Type 0 where
-  pub tile : t < length w.taken
-  pub fresh : has_tile w.posts t ≡ false
-
-pub may_parts : (w : Windows) (t : ℕ) → may_post w t ≡ true → MayPost w t
-may_parts w t may =
-    let first = and_parts ((w.phase == 0) && nat_lt t (length w.taken)) (not (has_tile w.posts t)) may in
-    let second = and_parts (w.phase == 0) (nat_lt t (length w.taken)) first.0 in
-    record { tile = ltb-true t (length w.taken) second.1; fresh = not-true (has_tile w.posts t) first.1 }
+use Rattle.net_iface.proofs.Steps.{after_request_post-no_tile, after_request_post-all, after_request_post-refused, is_some-after_request_post}
 
 length-made : (p : Parts) (t : ℕ) → length (requests_of_tile p.ordered p.unordered t) ≡ count_by_tile t p.ordered + length (unordered_of p.unordered t)
 length-made p t = omega (arith, length-append (requests_of t p.ordered) (unordered_of p.unordered t), length-requests_of t p.ordered)
@@ -53,7 +43,7 @@ one_to_post p t some fresh =
 test_by : (p : Parts) (t : ℕ) (o : Option Windows) → after_post p.windows.windows t ≡ o → AreSized p → 0 < length (unordered_of p.unordered t) → is_some (after_post p.windows.windows t) ≡ is_some (after_request_post (network_of p) t)
 test_by p t None is sizes some = ap is_some is ∙ sym (ap is_some (after_request_post-refused (network_of p) t is))
 test_by p t (Some w) is sizes some =
-    let may = may_parts p.windows.windows t (post_is p.windows.windows t w is).may in
+    let may = post_is t p.windows.windows w is in
     sym (is_some-after_request_post (network_of p) t (interface_of p.windows.windows.posts p.ordered p.unordered p.delivered t) (interface_at p t (omega (arith, may.tile, sizes.taken))) (one_to_post p t some may.fresh))
 
 pub post_test : (p : Parts) (t : ℕ) → AreSized p → 0 < length (unordered_of p.unordered t) → is_some (after_post p.windows.windows t) ≡ is_some (after_request_post (network_of p) t)

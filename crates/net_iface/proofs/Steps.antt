@@ -1,7 +1,6 @@
 -- The steps of an ordered network where their guards hold and where they do not.
-use Rattle.std.proofs.Common.{◌≡◌, ℕ, ◌+◌, ◌<◌, Bool, true, false, [], ◌∷◌, ◌++◌, length, Option, Some, None, Result, Ok, Err, refl, ◌∙◌, cond, bit_or, ◌^◌}
+use Rattle.std.proofs.Common.{◌≡◌, ℕ, ◌+◌, Bool, true, false, [], ◌∷◌, ◌++◌, length, Option, Some, None, Result, Ok, Err, refl, sym, ◌∙◌}
 use Rattle.std.specs.Prelude.{slice_get, nat_lt, is_some, OnErr}
-use Rattle.std.proofs.lemmas.Bool.{ltb-true}
 use Rattle.std.proofs.lemmas.Option.{cond_some}
 use Rattle.mesh_gen.specs.declared.request.Request.{Request}
 use Rattle.mesh_gen.specs.declared.kind.Kind.{Kind}
@@ -10,8 +9,9 @@ use Rattle.vc_bank.specs.Places.{Network}
 use Rattle.chip_model.specs.declared.net_copy.NetCopy.{NetCopy}
 use Rattle.chip_model.specs.Partial.{when, ◌>>=◌}
 use Rattle.chip_model.specs.Chip.{Chip}
-use Rattle.chip_model.specs.Windows.{Windows, may_post, after_post, window_closed, is_last_tick, after_tick, closed_by_tick, after_take}
+use Rattle.chip_model.specs.Windows.{Windows, after_post, window_closed, is_last_tick, after_tick, closed_by_tick, after_take}
 use Rattle.chip_model.specs.Copies.{Name, after_entry, after_hop, local_place, after_serve}
+use Rattle.window_core.proofs.Holds.{tick_is}
 use Rattle.window_core.proofs.Steps.{none_from_test, there_too}
 use Rattle.chip_model.specs.OrderedNetwork.{OrderedNetwork, Interface, with_interface, next_request, after_inject, after_request_post, ordered_by_window, after_network_tick, after_vector_take, expected_at, expected_at_next_hop, after_copy_hop, after_delivery}
 
@@ -71,24 +71,7 @@ pub is_some-after_request_post : (net : OrderedNetwork) (t : ℕ) (interface : I
 unfolding after_request_post
 is_some-after_request_post net t interface is more = rw (is, more) (there_too (after_post net.windows t) _)
 
--- what a post is
-pub record IsPost (w : Windows) (t : ℕ) (new : Windows) : Type 0 where
-  pub may : may_post w t ≡ true
-  pub is : record w { posts = bit_or (2 ^ t) w.posts } ≡ new
-
-pub post_is : (w : Windows) (t : ℕ) (new : Windows) → after_post w t ≡ Some new → IsPost w t new
-unfolding after_post
-post_is w t new is = let parts = cond_some (may_post w t) (record w { posts = bit_or (2 ^ t) w.posts }) new is in record { may = parts.0; is = parts.1 }
-
 -- ---- a tick
-
-pub record IsTick (ticks : ℕ) (w new : Windows) : Type 0 where
-  pub posted : 0 < w.posts
-  pub is : cond (is_last_tick ticks w) (window_closed w) (record w { phase = w.phase + 1 }) ≡ new
-
-pub tick_is : (ticks : ℕ) (w new : Windows) → after_tick ticks w ≡ Some new → IsTick ticks w new
-unfolding after_tick
-tick_is ticks w new is = let parts = cond_some (nat_lt 0 w.posts) (cond (is_last_tick ticks w) (window_closed w) (record w { phase = w.phase + 1 })) new is in record { posted = ltb-true 0 w.posts parts.0; is = parts.1 }
 
 pub record IsLast (ticks : ℕ) (w : Windows) (vector : ℕ) : Type 0 where
   pub last : is_last_tick ticks w ≡ true
@@ -108,10 +91,10 @@ not_last ticks w none = not_last_by (is_last_tick ticks w) w.posts none
 
 -- a tick that is not the last one, and one that is
 pub merge_is : (ticks : ℕ) (w new : Windows) → after_tick ticks w ≡ Some new → is_last_tick ticks w ≡ false → record w { phase = w.phase + 1 } ≡ new
-merge_is ticks w new is other = let step = tick_is ticks w new is in rw other at step.is
+merge_is ticks w new is other = let step = tick_is ticks w new is in sym (rw other at step.is)
 
 pub close_is : (ticks : ℕ) (w new : Windows) → after_tick ticks w ≡ Some new → is_last_tick ticks w ≡ true → window_closed w ≡ new
-close_is ticks w new is last = let step = tick_is ticks w new is in rw last at step.is
+close_is ticks w new is last = let step = tick_is ticks w new is in sym (rw last at step.is)
 
 pub after_network_tick-last : (chip : Chip) (net : OrderedNetwork) (windows : Windows) → after_tick chip.window net.windows ≡ Some windows → is_last_tick chip.window net.windows ≡ true
     → after_network_tick chip net ≡ Some (record net { windows = windows; ordered = net.ordered ++ ordered_by_window chip net })

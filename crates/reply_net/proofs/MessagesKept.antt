@@ -87,11 +87,13 @@ messages_hopped nearer stands_on chip old new r port slot holds is =
         hold-put chip mid next.router next.port next.slot msg (hold-take chip old r p slot holds (place_of old r p slot msg stands)) (free_place mid next.router (port_number next.port) next.slot free) fits
         (stands_next chip.grid old r msg next stands_on some found)
 
-pub messages_came : (chip : Chip) (old new : Network Msg) (r : ℕ) (port : Port) (slot : ℕ) (msg : Msg) → MessagesHold chip old → after_data_eject old r port slot ≡ Some (msg, new) → MessageCame chip r msg new
+pub messages_came : (chip : Chip) (old new : Network Msg) (r : ℕ) (port : Port) (slot : ℕ) (msg : Msg) → MessagesHold chip old → after_data_eject old r port slot ≡ Some (msg, new) → MessageCame chip msg new
 messages_came chip old new r port slot msg holds is =
     let took = received_is old r port slot (msg, new) is in
     record {
       holds = subst (MessagesHold chip) (sym took.left) (hold-take chip old r (port_number port) slot holds (place_of old r (port_number port) slot msg took.stood));
       fits = holds.messages r (port_number port) slot msg took.stood;
-      here = took.here;
     }
+
+pub message_here : (old new : Network Msg) (r : ℕ) (port : Port) (slot : ℕ) (msg : Msg) → after_data_eject old r port slot ≡ Some (msg, new) → msg.to ≡ r
+message_here old new r port slot msg is = (received_is old r port slot (msg, new) is).here

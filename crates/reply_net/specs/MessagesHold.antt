@@ -11,8 +11,7 @@ pub record MessagesHold (chip : Chip) (net : Network Msg) : Type 0 where
   pub routes : IsOnRoute chip.grid net
   pub messages : (router port slot : ℕ) (msg : Msg) → at net router port slot ≡ Some msg → MessageFits chip msg
 
--- a message has come to its tile
-pub record MessageCame (chip : Chip) (t : ℕ) (msg : Msg) (new : Network Msg) : Type 0 where
+-- a message that fits has left its channel
+pub record MessageCame (chip : Chip) (msg : Msg) (new : Network Msg) : Type 0 where
   pub holds : MessagesHold chip new
   pub fits : MessageFits chip msg
-  pub here : msg.to ≡ t

@@ -32,7 +32,9 @@ pub fn message_laws()
     ensures hopped { (chip : Chip) (old new : Network Msg) (r : ℕ) (port : Port) (slot : ℕ) → MessagesHold chip old
         → after_data_hop chip.grid old r port slot ≡ Some new → MessagesHold chip new }
     ensures came { (chip : Chip) (old new : Network Msg) (t : ℕ) (port : Port) (slot : ℕ) (msg : Msg) → MessagesHold chip old
-        → after_data_eject old t port slot ≡ Some (msg, new) → MessageCame chip t msg new }
+        → after_data_eject old t port slot ≡ Some (msg, new) → MessageCame chip msg new }
+    ensures here { (old new : Network Msg) (t : ℕ) (port : Port) (slot : ℕ) (msg : Msg)
+        → after_data_eject old t port slot ≡ Some (msg, new) → msg.to ≡ t }
 {
     route_laws();
 }

@@ -1,4 +1,4 @@
-use Rattle.reply_net.proofs.MessagesKept.{messages_opened, messages_sent, messages_hopped, messages_came}
+use Rattle.reply_net.proofs.MessagesKept.{messages_opened, messages_sent, messages_hopped, messages_came, message_here}
 use Rattle.reply_net.proofs.laws.message_laws.Goals as goal
 
 pub returns-clause-opened : goal.returns-clause-opened
@@ -12,3 +12,6 @@ returns-clause-hopped c = messages_hopped c.route_laws.ensures.nearer c.route_la
 
 pub returns-clause-came : goal.returns-clause-came
 returns-clause-came c = messages_came
+
+pub returns-clause-here : goal.returns-clause-here
+returns-clause-here c = message_here
