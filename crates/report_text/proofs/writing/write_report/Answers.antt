@@ -79,7 +79,7 @@ returns-in_err-write_journal g c =
     let accesses = WritesAllBut-more tiles (part_first (access_part r.accesses) (from_memory r)) (rw c.as_slice-4.ensures at c.in_ok-write_accesses.ensures) in
     let memory = WritesAllBut-more accesses (part_first (memory_part r.memory) (from_counts r)) (rw c.as_slice-5.ensures at c.in_ok-write_memory.ensures) in
     let counts = WritesAllBut-more memory (part_first (count_part r.windows r.hops) (from_journal r)) c.in_ok-write_counts.ensures in
-    Writes-failed _ c.from_residual-in_err-write_journal.result c.from_residual-in_err-write_journal.ensures.0 counts (part_first (journal_part r.journal) (from_finish r)) (rw c.as_slice-6.ensures at c.in_err-write_journal.ensures)
+    Writes-failed _ c.from_residual-in_err-write_journal.result c.from_residual-in_err-write_journal.ensures.0 counts (part_first (journal_part r.journal) (from_finish r)) c.in_err-write_journal.ensures
 
 pub returns : goal.returns
 returns g c =
@@ -90,5 +90,5 @@ returns g c =
     let accesses = WritesAllBut-more tiles (part_first (access_part r.accesses) (from_memory r)) (rw c.as_slice-4.ensures at c.in_ok-write_accesses.ensures) in
     let memory = WritesAllBut-more accesses (part_first (memory_part r.memory) (from_counts r)) (rw c.as_slice-5.ensures at c.in_ok-write_memory.ensures) in
     let counts = WritesAllBut-more memory (part_first (count_part r.windows r.hops) (from_journal r)) c.in_ok-write_counts.ensures in
-    let journal = WritesAllBut-more counts (part_first (journal_part r.journal) (from_finish r)) (rw c.as_slice-6.ensures at c.in_ok-write_journal.ensures) in
+    let journal = WritesAllBut-more counts (part_first (journal_part r.journal) (from_finish r)) c.in_ok-write_journal.ensures in
     Writes-last c.write.result journal (text_of_lines-last _ _ c.finish_line.ensures.text) c.write.ensures
