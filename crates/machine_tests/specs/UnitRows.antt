@@ -10,6 +10,7 @@ use Rattle.chip_model.specs.Snoop.{data_to}
 use Rattle.chip_model.specs.Node.{after_request_sent, after_message_sent}
 use Rattle.chip_model.specs.Units.{UnitState, opening_unit, in_order}
 
+-- a chip of one tile
 abbrev pub one_tile : Chip
 one_tile = record {
   grid = record { cols = 1; rows = 1 };
@@ -22,26 +23,31 @@ one_tile = record {
   controllers = 0 ∷ [];
 }
 
+-- it stores 7 at address 2 and loads it again
 abbrev pub store_and_load : List Instr
 store_and_load = Li 1 7 ∷ St 1 0 2 ∷ Ld 2 0 2 ∷ Halt ∷ []
 
+-- the unit of this program, before its first step
 abbrev pub opened : UnitState
 opened = opening_unit one_tile 0 store_and_load (replicate 64 0)
 
--- the unit after a core event, and after the request and the message that it had to send
+-- the unit after a core event
 abbrev pub stepped : UnitState → UnitState
 stepped unit = (in_order.stepped unit).0
 
+-- the unit after it sent its request
 abbrev pub asked : UnitState → UnitState
 asked unit = record unit { node = after_request_sent unit.node }
 
+-- the unit after it sent its message
 abbrev pub sent : UnitState → UnitState
 sent unit = record unit { node = after_message_sent unit.node }
 
--- the store's miss, and the words of memory that answer it
+-- the request of the store's miss
 abbrev pub its_request : Request
 its_request = record { source = 0; number = 0; kind = GetM; line = 0 }
 
+-- the words that answer it
 abbrev pub its_words : Msg
 its_words = data_to 0 0 (0 ∷ 0 ∷ 0 ∷ 0 ∷ [])
 

@@ -19,6 +19,7 @@ abbrev pub fault_of_stop : Stop → Option DocFault
 fault_of_stop (Document fault) = Some fault
 fault_of_stop _ = None
 
+-- how the program ends by the result of its command
 abbrev pub ended_of : Result Unit Stop → Ended
 ended_of (Ok done) = record { status = 0; at = 0; doc_fault = None }
 ended_of (Err stop) = record { status = status_of stop; at = 0; doc_fault = fault_of_stop stop }

@@ -18,6 +18,7 @@ said_of status =
     else if status == 7 then codes "scorpio: input too long"
     else []
 
+-- what is said of a status: the fault of the document, where there is one
 abbrev pub message_with : ℕ → Option DocFault → List ℕ
 message_with status None = said_of status
 message_with status (Some fault) = codes "scorpio: document: " ++ fault_text fault
