@@ -30,12 +30,14 @@ pub record NetworkLaws : Type 0 where
   pub posted : (chip : Chip) (old new : OrderedNetwork) (t : ℕ) → OrderedNetworkHolds chip old → after_request_post old t ≡ Some new → OrderedNetworkHolds chip new
   pub ticked : (chip : Chip) (old new : OrderedNetwork) → OrderedNetworkHolds chip old → after_network_tick chip old ≡ Some new → OrderedNetworkHolds chip new
   pub taken : (chip : Chip) (old new : OrderedNetwork) (t : ℕ) → OrderedNetworkHolds chip old → after_vector_take old t ≡ Some new → OrderedNetworkHolds chip new
-  pub hopped : (chip : Chip) (old new : OrderedNetwork) (r : ℕ) (port : Port) (slot : ℕ) (out : Port) → OrderedNetworkHolds chip old → after_copy_hop chip old r port slot out ≡ Some new → OrderedNetworkHolds chip new
+  pub hopped : (chip : Chip) (old new : OrderedNetwork) (r : ℕ) (port : Port) (slot : ℕ) (out : Port) → OrderedNetworkHolds chip old → after_copy_hop chip old r port slot out ≡ Some new
+      → OrderedNetworkHolds chip new
   pub delivered : (chip : Chip) (old new : OrderedNetwork) (t : ℕ) (q : Request) → OrderedNetworkHolds chip old → after_delivery chip old t ≡ Some (q, new) → OrderedNetworkHolds chip new
   pub no_message : (chip : Chip) → MessagesHold chip (no_replies chip.grid chip.data_vcs)
   pub sent : (chip : Chip) (old new : Network Msg) (t : ℕ) (msg : Msg) → MessagesHold chip old → MessageFits chip msg → after_send old t msg ≡ Some new → MessagesHold chip new
   pub moved : (chip : Chip) (old new : Network Msg) (r : ℕ) (port : Port) (slot : ℕ) → MessagesHold chip old → after_data_hop chip.grid old r port slot ≡ Some new → MessagesHold chip new
-  pub came : (chip : Chip) (old new : Network Msg) (t : ℕ) (port : Port) (slot : ℕ) (msg : Msg) → MessagesHold chip old → after_data_eject old t port slot ≡ Some (msg, new) → MessageCame chip msg new
+  pub came : (chip : Chip) (old new : Network Msg) (t : ℕ) (port : Port) (slot : ℕ) (msg : Msg) → MessagesHold chip old → after_data_eject old t port slot ≡ Some (msg, new)
+      → MessageCame chip msg new
 
 -- the two networks, each by itself
 joined : (d : Doc) (s : ChipState) → OrderedNetworkHolds (chip_of d) s.network → MessagesHold (chip_of d) s.replies → NetworkHolds d s

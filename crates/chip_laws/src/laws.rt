@@ -53,8 +53,9 @@ pub fn node_event_laws()
 /// the messages in the queues fit. At run time it does nothing.
 pub fn network_event_laws()
     ensures opened { (d : Doc) → DocFits d → NetworkHolds d (opening d) }
-    ensures kept { (b : Behaviour) (d : Doc) (s new : ChipState) (event : Event) → NetworkHolds d s → QueuesFit d s
-        → step b (chip_of d) s event ≡ Some new → NetworkHolds d new }
+    ensures kept { (b : Behaviour) (d : Doc) (s new : ChipState) (event : Event)
+        → NetworkHolds d s → QueuesFit d s → step b (chip_of d) s event ≡ Some new
+        → NetworkHolds d new }
 {
     net_iface::network_laws();
     reply_net::message_laws();

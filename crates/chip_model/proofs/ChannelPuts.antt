@@ -23,14 +23,16 @@ length_bank-put net r p slot packet n place = ⊎_elim
     (λ apart. ap length (bank-put_other net r p slot packet n apart))
     (cases_eq n r)
 
-length_slots-put : {P : Type 0} (net : Network P) (r p slot : ℕ) (packet : Option P) (n q : ℕ) → HasPlace net r p slot → length (slots_at (channels_of (put net r p slot packet) n) q) ≡ length (slots_at (channels_of net n) q)
+length_slots-put : {P : Type 0} (net : Network P) (r p slot : ℕ) (packet : Option P) (n q : ℕ) → HasPlace net r p slot
+    → length (slots_at (channels_of (put net r p slot packet) n) q) ≡ length (slots_at (channels_of net n) q)
 unfolding slots
 length_slots-put net r p slot packet n q place = length-slots-put net r p slot packet n q place
 
 bank_is : {P : Type 0} (net : Network P) (n : ℕ) (channels : Channels P) → slice_get net n ≡ Some channels → channels_of net n ≡ channels
 bank_is net n channels there = get_or_from_slice_get net n channels [] there
 
-pub HasChannels-put : {P : Type 0} (g : Grid) (normal : ℕ) (reserved : Bool) (net : Network P) (r p slot : ℕ) (packet : Option P) → HasChannels g normal reserved net → HasPlace net r p slot → HasChannels g normal reserved (put net r p slot packet)
+pub HasChannels-put : {P : Type 0} (g : Grid) (normal : ℕ) (reserved : Bool) (net : Network P) (r p slot : ℕ) (packet : Option P) → HasChannels g normal reserved net → HasPlace net r p slot
+    → HasChannels g normal reserved (put net r p slot packet)
 HasChannels-put {P} g normal reserved net r p slot packet have place = record {
   routers = length-put net r p slot packet ∙ have.routers;
   ports = λ n channels there. ap length (sym (bank_is (put net r p slot packet) n channels there)) ∙ length_bank-put net r p slot packet n place
@@ -46,7 +48,8 @@ HasChannels-put {P} g normal reserved net r p slot packet have place = record {
 abbrev pub Every : {P : Type 0} → (ℕ → ℕ → P → Type 0) → Network P → Type 0
 Every {P} holds net = (r p slot : ℕ) (packet : P) → at net r p slot ≡ Some packet → holds r p packet
 
-pub every-put : {P : Type 0} (holds : ℕ → ℕ → P → Type 0) (net : Network P) (r p slot : ℕ) (packet : Option P) → Every holds net → HasPlace net r p slot → ((x : P) → packet ≡ Some x → holds r p x) → Every holds (put net r p slot packet)
+pub every-put : {P : Type 0} (holds : ℕ → ℕ → P → Type 0) (net : Network P) (r p slot : ℕ) (packet : Option P) → Every holds net → HasPlace net r p slot
+    → ((x : P) → packet ≡ Some x → holds r p x) → Every holds (put net r p slot packet)
 every-put holds net r p slot packet all place own n q i x stands = ⊎_elim
     (λ here. subst (λ (m : ℕ). holds m q x) (sym here.0) (subst (λ (port : ℕ). holds r port x) (sym here.1) (own x here.3)))
     (λ before. all n q i x before)

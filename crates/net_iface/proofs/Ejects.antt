@@ -77,7 +77,8 @@ module _ (p : Parts) (routers : RequestNetwork) (t : ℕ) (q : Request) (kept : 
   others u other = get_or-set_other p.delivered t u (slice_index p.delivered t + 1) 0 other
 
   pub AreKept-eject : (trackers : List TrackerState) (delivered : List ℕ) → PassesAt t p.trackers trackers → delivered ≡ more → routers.grid ≡ p.routers.grid → routers.vcs ≡ p.routers.vcs
-      → OrderedNetworkHolds p.chip (network_of (record p { routers = routers; trackers = trackers; delivered = more })) → AreKept (record p { routers = routers; trackers = trackers; delivered = delivered })
+      → OrderedNetworkHolds p.chip (network_of (record p { routers = routers; trackers = trackers; delivered = more }))
+      → AreKept (record p { routers = routers; trackers = trackers; delivered = delivered })
   AreKept-eject trackers delivered passes is grid vcs holds = subst (λ (counts : List ℕ). AreKept (record p { routers = routers; trackers = trackers; delivered = counts })) (sym is) (record {
     sizes = record {
       some = kept.sizes.some;

@@ -46,7 +46,8 @@ pub record IsDelivery (chip : Chip) (old new : OrderedNetwork) (t : ℕ) (q : Re
   pub comes : (r : Request) → HasCopies copies r → HasCopies old.copies r
   pub is : new ≡ with_interface (record old { copies = copies }) t (record was { delivered = was.delivered + 1 })
 
-pub delivery_of : (chip : Chip) (old new : OrderedNetwork) (t : ℕ) (q : Request) → Accords chip old → 0 < tile_count chip → ServesNamed → after_delivery chip old t ≡ Some (q, new) → IsDelivery chip old new t q
+pub delivery_of : (chip : Chip) (old new : OrderedNetwork) (t : ℕ) (q : Request) → Accords chip old → 0 < tile_count chip → ServesNamed → after_delivery chip old t ≡ Some (q, new)
+    → IsDelivery chip old new t q
 unfolding after_delivery
 delivery_of chip old new t q accords some serves is =
     bind_eq P (slice_get old.interfaces t) _ (λ interface there last done. bind_eq P (expected_at chip old t) _ (λ name expects last done. bind_eq P (after_serve old.copies t name) _

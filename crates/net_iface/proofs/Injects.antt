@@ -126,7 +126,8 @@ module _ (p : Parts) (routers : RequestNetwork) (q : Request) (kept : AreKept p)
   abbrev pub after : Parts
   after = record p { routers = routers; unordered = more }
 
-  pub has_room : OrderedNetworkHolds p.chip (network_of after) → ((names : List Name) → AllPairs (λ a b. a ≢ b) names → All (λ name. 0 < owing p.chip.grid routers.copies name q.source) names → length names ≤ channel_count p.chip)
+  pub has_room : OrderedNetworkHolds p.chip (network_of after)
+      → ((names : List Name) → AllPairs (λ a b. a ≢ b) names → All (λ name. 0 < owing p.chip.grid routers.copies name q.source) names → length names ≤ channel_count p.chip)
       → length (unordered_of p.unordered q.source) < (unordered_at p.unordered q.source).capacity
   has_room holds law =
       let few = unordered_few p.chip routers.copies p.windows.windows p.ordered more p.delivered q.source (accounted_of after holds.fits) kept.sizes.some inside law in
@@ -199,7 +200,8 @@ module _ (p : Parts) (routers : RequestNetwork) (q : Request) (kept : AreKept p)
       ∙ ap (λ (lists : List (Buffer Request)). interfaces_of n p.windows.windows.posts p.ordered lists p.delivered) (sym is))
 
 -- the step of the definitions
-pub injected : (p : Parts) (routers : RequestNetwork) (t : ℕ) (kind : Kind) (line : ℕ) (q : Request) (kept : AreKept p) (inside : q.source < tile_count p.chip) (number : q.number ≡ length (requests_of_tile p.ordered p.unordered q.source)) → IsNextOf p t kind line q
+pub injected : (p : Parts) (routers : RequestNetwork) (t : ℕ) (kind : Kind) (line : ℕ) (q : Request) (kept : AreKept p) (inside : q.source < tile_count p.chip) (number : q.number ≡ length (requests_of_tile p.ordered p.unordered q.source))
+    → IsNextOf p t kind line q
     → after_entry p.chip.grid p.routers.copies q ≡ Some routers.copies → after_inject p.chip (network_of p) t kind line ≡ Some (network_of (after p routers q kept inside number))
 injected p routers t kind line q kept inside number one enters =
     after_inject-some p.chip (network_of p) t kind line (interface_of p.windows.windows.posts p.ordered p.unordered p.delivered t) routers.copies (interface_at p t one.inside)

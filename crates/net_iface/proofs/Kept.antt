@@ -108,7 +108,8 @@ delivered_within p t kept inside = (kept.holds.fits.agree t (interface_of p.wind
 pub AreKept-close : (p : Parts) (windows : WindowsState) (ordered : List Request) (unordered : List (Buffer Request)) → SameSizes p.windows windows → windows.windows ≡ window_closed p.windows.windows
     → length p.ordered + tile_count p.chip ≤ p.room → LoseLowest 0 (tile_count p.chip) p.windows.windows.posts p.unordered unordered
     → ordered ≡ p.ordered ++ filter_map (lowest_of p.unordered) (expansion (tile_count p.chip) (length p.windows.windows.closed) p.windows.windows.posts)
-    → OrderedNetworkHolds p.chip (network_of (record p { windows = windows; ordered = ordered; unordered = unordered })) → AreKept p → AreKept (record p { windows = windows; ordered = ordered; unordered = unordered })
+    → OrderedNetworkHolds p.chip (network_of (record p { windows = windows; ordered = ordered; unordered = unordered })) → AreKept p
+    → AreKept (record p { windows = windows; ordered = ordered; unordered = unordered })
 AreKept-close p windows ordered unordered same closes room lose is holds kept =
     let w = p.windows.windows in
     let sized = sized_windows p windows same (ap (λ (v : Windows). length v.taken) closes) kept.sizes in

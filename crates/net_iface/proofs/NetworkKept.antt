@@ -44,7 +44,8 @@ copies_of : (chip : Chip) (net : OrderedNetwork) → NetworkFits chip net → Co
 copies_of chip net fits = record { channels = fits.channels; fit = fits.copies }
 
 module _ (laws : PartLaws) (chip : Chip) where
-  fits_of : (net : OrderedNetwork) → Accords chip net → CopiesHold chip.grid chip.vcs net.copies → WindowsFit chip net.windows → IsOwedUntilDelivered chip net → ReservedIsOrdered chip net → NetworkFits chip net
+  fits_of : (net : OrderedNetwork) → Accords chip net → CopiesHold chip.grid chip.vcs net.copies → WindowsFit chip net.windows → IsOwedUntilDelivered chip net → ReservedIsOrdered chip net
+      → NetworkFits chip net
   fits_of net accords copies windows owed reserved = record {
     channels = copies.channels;
     windows = windows;
@@ -184,7 +185,8 @@ module _ (laws : PartLaws) (chip : Chip) where
         (subst (λ (o : Option Name). expects o request ≡ true) (ap (λ (o : Option ℕ). o >>= expected_at chip old) just.0) just.1)))
         (hopped.reserves router port request has)) fits.reserved)
       where
-        next_hop : (same : SameRequests old new) (router : ℕ) (request : Request) (i : Interface) → slice_get new.interfaces router ≡ Some i → (expected : Option Name) → expected_at chip old router ≡ expected → expects expected request ≡ true
+        next_hop : (same : SameRequests old new) (router : ℕ) (request : Request) (i : Interface) → slice_get new.interfaces router ≡ Some i → (expected : Option Name)
+            → expected_at chip old router ≡ expected → expects expected request ≡ true
             → OrderedUpTo chip old new fits.interfaces same within i request
         next_hop same router request i found None is named = cc
         next_hop same router request i found (Some name) is named =
@@ -199,7 +201,8 @@ module _ (laws : PartLaws) (chip : Chip) where
             )
 
     -- what a tile delivers is the next request of the order
-    pub delivers_next : ServesNamed → (t : ℕ) (i : Interface) (q : Request) → slice_get old.interfaces t ≡ Some i → after_delivery chip old t ≡ Some (q, new) → slice_get old.ordered i.delivered ≡ Some q
+    pub delivers_next : ServesNamed → (t : ℕ) (i : Interface) (q : Request) → slice_get old.interfaces t ≡ Some i → after_delivery chip old t ≡ Some (q, new)
+        → slice_get old.ordered i.delivered ≡ Some q
     delivers_next named t i q there is =
         let d = delivery_of chip old new t q accords (some_tiles t i there) named is in
         ap (λ (j : Interface). slice_get old.ordered j.delivered) (same_Some i d.was (sym there ∙ d.there)) ∙ d.next

@@ -23,7 +23,8 @@ pub record ExpectsEntry (chip : Chip) (net : OrderedNetwork) (t place : ℕ) (na
   pub counted : slice_get net.windows.taken t ≡ Some taken
   pub entry : entry_at (order (tile_count chip) (take taken net.windows.closed)) place ≡ Some name
 
-pub expects_entry : (chip : Chip) (net : OrderedNetwork) (t : ℕ) (interface : Interface) (name : Name) → slice_get net.interfaces t ≡ Some interface → expected_at chip net t ≡ Some name → ExpectsEntry chip net t interface.delivered name
+pub expects_entry : (chip : Chip) (net : OrderedNetwork) (t : ℕ) (interface : Interface) (name : Name) → slice_get net.interfaces t ≡ Some interface → expected_at chip net t ≡ Some name
+    → ExpectsEntry chip net t interface.delivered name
 unfolding expected_at
 expects_entry chip net t interface name there expects =
     option_and_then_some (λ i. slice_get net.windows.taken t >>= (λ taken. entry i taken)) (slice_get net.interfaces t) name expects (λ i found rest.

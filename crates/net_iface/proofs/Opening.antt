@@ -76,7 +76,8 @@ module _ (chip : Chip) (room : ℕ) (trackers : List TrackerState) (some : 0 < t
           posted : (t : ℕ) → 0 ≡ count_by_tile t [] + count_if (has_tile 0 t)
           posted t = rw (has_tile-none t) (omega arith)
 
-  pub AreKept-opening_state : OrderedNetworkHolds chip (opening_network chip) → tile_count chip ≤ most_tiles → room < 2 ^ 31 → AreUnused (tile_count chip) (channel_count chip) trackers → AreKept (opening_parts chip room trackers)
+  pub AreKept-opening_state : OrderedNetworkHolds chip (opening_network chip) → tile_count chip ≤ most_tiles → room < 2 ^ 31 → AreUnused (tile_count chip) (channel_count chip) trackers
+      → AreKept (opening_parts chip room trackers)
   AreKept-opening_state holds few small unused = record {
     sizes = record {
       some = some;

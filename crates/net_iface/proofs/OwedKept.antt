@@ -70,7 +70,8 @@ module _ (chip : Chip) (old new : OrderedNetwork) (tiles : length old.interfaces
   abbrev pub OrderedUpTo : Interface → Request → Type 0
   OrderedUpTo i request = (place : ℕ) × (q : Request) × (slice_get new.ordered place ≡ Some q) × (name_of q ≡ name_of request) × (place ≤ i.delivered)
 
-  pub still_ordered : (router port : ℕ) (request : Request) (i : Interface) → HasCopyAt old.copies router port chip.vcs request → slice_get new.interfaces router ≡ Some i → ReservedIsOrdered chip old → OrderedUpTo i request
+  pub still_ordered : (router port : ℕ) (request : Request) (i : Interface) → HasCopyAt old.copies router port chip.vcs request → slice_get new.interfaces router ≡ Some i
+      → ReservedIsOrdered chip old → OrderedUpTo i request
   still_ordered router port request i has found reserved =
       let b = same.interfaces router i found in
       let (place, q, there, named, low) = reserved router port has.copy b.was has.stands b.there in
@@ -124,7 +125,8 @@ module _ (chip : Chip) (old new : OrderedNetwork) (tiles : length old.interfaces
 
 module _ (chip : Chip) (old new : OrderedNetwork) (tiles : length old.interfaces ≡ tile_count chip) (t : ℕ) (was : Interface) (q : Request) (sets : SetsInterface old new t was (record was { delivered = was.delivered + 1 }))
     (next : slice_get old.ordered was.delivered ≡ Some q) where
-  had_made : (u : ℕ) (i : Interface) → slice_get new.interfaces u ≡ Some i → (before : Interface) × (slice_get old.interfaces u ≡ Some before) × (i.made ≡ before.made) × (before.delivered ≤ i.delivered)
+  had_made : (u : ℕ) (i : Interface) → slice_get new.interfaces u ≡ Some i
+      → (before : Interface) × (slice_get old.interfaces u ≡ Some before) × (i.made ≡ before.made) × (before.delivered ≤ i.delivered)
   had_made u i found = ⊎_elim
       (λ here. (was, ap (slice_get old.interfaces) here.0 ∙ sets.there, ap (λ (j : Interface). j.made) (sym here.1), omega (arith, ap (λ (j : Interface). j.delivered) here.1)))
       (λ away. (i, away.1, refl, omega arith))

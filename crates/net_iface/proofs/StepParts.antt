@@ -63,7 +63,8 @@ vector_taken old new t is =
     after : Windows → OrderedNetwork
     after windows = record old { windows = windows }
 
-pub copy_moved : (chip : Chip) (old new : OrderedNetwork) (r : ℕ) (port : Port) (slot : ℕ) (out : Port) → after_copy_hop chip old r port slot out ≡ Some new → CopyMoved chip old new r port slot out
+pub copy_moved : (chip : Chip) (old new : OrderedNetwork) (r : ℕ) (port : Port) (slot : ℕ) (out : Port) → after_copy_hop chip old r port slot out ≡ Some new
+    → CopyMoved chip old new r port slot out
 unfolding after_copy_hop
 copy_moved chip old new r port slot out is =
     option_and_then_some (λ copies. Some (after copies)) (after_hop chip.grid old.copies r port slot out (expected_at_next_hop chip old r out)) new is (λ copies hops done.

@@ -46,7 +46,8 @@ module _ (laws : PartLaws) (chip : Chip) (old new : OrderedNetwork) (took : Deli
       (λ away. (i, away.1, refl))
       (set_cases sets u i found)
 
-  interfaces_same : new.interfaces ≡ old.interfaces → (u : ℕ) (i : Interface) → slice_get new.interfaces u ≡ Some i → (before : Interface) × (slice_get old.interfaces u ≡ Some before) × (i.delivered ≡ before.delivered)
+  interfaces_same : new.interfaces ≡ old.interfaces → (u : ℕ) (i : Interface) → slice_get new.interfaces u ≡ Some i
+      → (before : Interface) × (slice_get old.interfaces u ≡ Some before) × (i.delivered ≡ before.delivered)
   interfaces_same same u i found = (i, ap (λ (xs : List Interface). slice_get xs u) (sym same) ∙ found, refl)
 
   pub took_made : (t : ℕ) (kind : Kind) (line : ℕ) → after_inject chip old t kind line ≡ Some new → DeliversWhatItTook chip new

@@ -16,28 +16,35 @@ use window_core::window_laws;
 /// The laws of what holds of an ordered network, over every chip: before any step, after each of them, and so after every
 /// list of calls. At run time it does nothing.
 pub fn network_laws()
-    ensures opened { (chip : Chip) → 0 < chip.window → OrderedNetworkHolds chip (opening_network chip) }
-    ensures made { (chip : Chip) (old new : OrderedNetwork) (t : ℕ) (kind : Kind) (line : ℕ) → OrderedNetworkHolds chip old
-        → after_inject chip old t kind line ≡ Some new → OrderedNetworkHolds chip new }
+    ensures opened { (chip : Chip) → 0 < chip.window
+        → OrderedNetworkHolds chip (opening_network chip) }
+    ensures made { (chip : Chip) (old new : OrderedNetwork) (t : ℕ) (kind : Kind) (line : ℕ)
+        → OrderedNetworkHolds chip old → after_inject chip old t kind line ≡ Some new
+        → OrderedNetworkHolds chip new }
     ensures posted { (chip : Chip) (old new : OrderedNetwork) (t : ℕ) → OrderedNetworkHolds chip old
         → after_request_post old t ≡ Some new → OrderedNetworkHolds chip new }
     ensures ticked { (chip : Chip) (old new : OrderedNetwork) → OrderedNetworkHolds chip old
         → after_network_tick chip old ≡ Some new → OrderedNetworkHolds chip new }
     ensures taken { (chip : Chip) (old new : OrderedNetwork) (t : ℕ) → OrderedNetworkHolds chip old
         → after_vector_take old t ≡ Some new → OrderedNetworkHolds chip new }
-    ensures hopped { (chip : Chip) (old new : OrderedNetwork) (r : ℕ) (port : Port) (slot : ℕ) (out : Port) → OrderedNetworkHolds chip old
-        → after_copy_hop chip old r port slot out ≡ Some new → OrderedNetworkHolds chip new }
-    ensures delivered { (chip : Chip) (old new : OrderedNetwork) (t : ℕ) (q : Request) → OrderedNetworkHolds chip old
-        → after_delivery chip old t ≡ Some (q, new) → OrderedNetworkHolds chip new }
+    ensures hopped { (chip : Chip) (old new : OrderedNetwork) (r : ℕ) (port : Port) (slot : ℕ) (out : Port)
+        → OrderedNetworkHolds chip old → after_copy_hop chip old r port slot out ≡ Some new
+        → OrderedNetworkHolds chip new }
+    ensures delivered { (chip : Chip) (old new : OrderedNetwork) (t : ℕ) (q : Request)
+        → OrderedNetworkHolds chip old → after_delivery chip old t ≡ Some (q, new)
+        → OrderedNetworkHolds chip new }
     ensures every { (chip : Chip) (calls : List NetworkCall) (h : History) → 0 < chip.window
-        → history_of chip (opening_history chip) calls ≡ Some h → OrderedNetworkHolds chip h.network }
+        → history_of chip (opening_history chip) calls ≡ Some h
+        → OrderedNetworkHolds chip h.network }
 
     // What a tile delivers is the next request of the order, and each request of the order is a tile's.
-    ensures next { (chip : Chip) (old new : OrderedNetwork) (t : ℕ) (interface : Interface) (q : Request) → NetworkFits chip old
-        → slice_get old.interfaces t ≡ Some interface → after_delivery chip old t ≡ Some (q, new)
+    ensures next { (chip : Chip) (old new : OrderedNetwork) (t : ℕ) (interface : Interface) (q : Request)
+        → NetworkFits chip old → slice_get old.interfaces t ≡ Some interface
+        → after_delivery chip old t ≡ Some (q, new)
         → slice_get old.ordered interface.delivered ≡ Some q }
-    ensures inside { (chip : Chip) (net : OrderedNetwork) (place : ℕ) (q : Request) → HasTiles chip.grid → NetworkFits chip net
-        → slice_get net.ordered place ≡ Some q → q.source < tile_count chip }
+    ensures inside { (chip : Chip) (net : OrderedNetwork) (place : ℕ) (q : Request)
+        → HasTiles chip.grid → NetworkFits chip net → slice_get net.ordered place ≡ Some q
+        → q.source < tile_count chip }
 {
     copies_laws();
     owed_laws();
@@ -49,11 +56,15 @@ pub fn network_laws()
 pub fn part_laws()
     ensures made { (chip : Chip) (old new : OrderedNetwork) (t : ℕ) (kind : Kind) (line : ℕ)
         → after_inject chip old t kind line ≡ Some new → RequestMade chip old new t kind line }
-    ensures posted { (old new : OrderedNetwork) (t : ℕ) → after_request_post old t ≡ Some new → RequestPosted old new t }
-    ensures ticked { (chip : Chip) (old new : OrderedNetwork) → after_network_tick chip old ≡ Some new → NetworkTicked chip old new }
-    ensures taken { (old new : OrderedNetwork) (t : ℕ) → after_vector_take old t ≡ Some new → VectorTaken old new t }
+    ensures posted { (old new : OrderedNetwork) (t : ℕ) → after_request_post old t ≡ Some new
+        → RequestPosted old new t }
+    ensures ticked { (chip : Chip) (old new : OrderedNetwork)
+        → after_network_tick chip old ≡ Some new → NetworkTicked chip old new }
+    ensures taken { (old new : OrderedNetwork) (t : ℕ) → after_vector_take old t ≡ Some new
+        → VectorTaken old new t }
     ensures hopped { (chip : Chip) (old new : OrderedNetwork) (r : ℕ) (port : Port) (slot : ℕ) (out : Port)
-        → after_copy_hop chip old r port slot out ≡ Some new → CopyMoved chip old new r port slot out }
+        → after_copy_hop chip old r port slot out ≡ Some new
+        → CopyMoved chip old new r port slot out }
     ensures delivered { (chip : Chip) (old new : OrderedNetwork) (t : ℕ) (q : Request)
         → after_delivery chip old t ≡ Some (q, new) → RequestDelivered chip old new t q }
 {}

@@ -26,7 +26,8 @@ use Rattle.reply_net.proofs.Accounts.{Nearer, received_is}
 -- ---- one write
 
 -- a message that fits comes to a free channel of its route
-hold-put : (chip : Chip) (net : Network Msg) (r : ℕ) (port : Port) (slot : ℕ) (msg : Msg) → MessagesHold chip net → HasPlace net r (port_number port) slot → MessageFits chip msg → IsRouteChannel chip.grid msg.to r port
+hold-put : (chip : Chip) (net : Network Msg) (r : ℕ) (port : Port) (slot : ℕ) (msg : Msg) → MessagesHold chip net → HasPlace net r (port_number port) slot → MessageFits chip msg
+    → IsRouteChannel chip.grid msg.to r port
     → MessagesHold chip (put net r (port_number port) slot (Some msg))
 hold-put chip net r port slot msg holds place fits may = record {
   channels = HasChannels-put chip.grid chip.data_vcs false net r (port_number port) slot (Some msg) holds.channels place;
@@ -62,7 +63,8 @@ messages_sent chip old new r msg holds fits is =
 abbrev pub StandsOn : Type 0
 StandsOn = (g : Grid) (dest r n : ℕ) → HasTiles g → neighbour g r (route g r dest) ≡ Some n → IsRouteChannel g dest n (opposite (route g r dest))
 
-pub messages_hopped : Nearer → StandsOn → (chip : Chip) (old new : Network Msg) (r : ℕ) (port : Port) (slot : ℕ) → MessagesHold chip old → after_data_hop chip.grid old r port slot ≡ Some new → MessagesHold chip new
+pub messages_hopped : Nearer → StandsOn → (chip : Chip) (old new : Network Msg) (r : ℕ) (port : Port) (slot : ℕ) → MessagesHold chip old
+    → after_data_hop chip.grid old r port slot ≡ Some new → MessagesHold chip new
 unfolding after_data_hop
 messages_hopped nearer stands_on chip old new r port slot holds is =
     option_and_then_some (λ msg. next_channel chip.grid old r msg >>= (λ next. Some (landed msg next))) (at old r p slot) new is (λ msg stands rest.
@@ -87,7 +89,8 @@ messages_hopped nearer stands_on chip old new r port slot holds is =
         hold-put chip mid next.router next.port next.slot msg (hold-take chip old r p slot holds (place_of old r p slot msg stands)) (free_place mid next.router (port_number next.port) next.slot free) fits
         (stands_next chip.grid old r msg next stands_on some found)
 
-pub messages_came : (chip : Chip) (old new : Network Msg) (r : ℕ) (port : Port) (slot : ℕ) (msg : Msg) → MessagesHold chip old → after_data_eject old r port slot ≡ Some (msg, new) → MessageCame chip msg new
+pub messages_came : (chip : Chip) (old new : Network Msg) (r : ℕ) (port : Port) (slot : ℕ) (msg : Msg) → MessagesHold chip old → after_data_eject old r port slot ≡ Some (msg, new)
+    → MessageCame chip msg new
 messages_came chip old new r port slot msg holds is =
     let took = received_is old r port slot (msg, new) is in
     record {

@@ -57,7 +57,8 @@ OnWay g msg r port = (msg.to < tiles g) × IsRouteChannel g msg.to r port
 abbrev pub EachStands : (ℕ → Port → Msg → Type 0) → Network Msg → Type 0
 EachStands holds net = (r : ℕ) (port : Port) (slot : ℕ) (msg : Msg) → at net r (port_number port) slot ≡ Some msg → holds r port msg
 
-pub each-put : (holds : ℕ → Port → Msg → Type 0) (net : Network Msg) (r : ℕ) (port : Port) (slot : ℕ) (msg : Msg) → EachStands holds net → HasPlace net r (port_number port) slot → holds r port msg
+pub each-put : (holds : ℕ → Port → Msg → Type 0) (net : Network Msg) (r : ℕ) (port : Port) (slot : ℕ) (msg : Msg) → EachStands holds net → HasPlace net r (port_number port) slot
+    → holds r port msg
     → EachStands holds (put net r (port_number port) slot (Some msg))
 each-put holds net r port slot msg each place own n q j m stands =
     every-put (λ r p m. (q : Port) → port_number q ≡ p → holds r q m) net r (port_number port) slot (Some msg)

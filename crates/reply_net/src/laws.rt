@@ -27,12 +27,15 @@ pub fn reply_laws()
 /// The laws of what holds of messages: before any step, and after each of them. At run time it does nothing.
 pub fn message_laws()
     ensures opened { (chip : Chip) → MessagesHold chip (no_replies chip.grid chip.data_vcs) }
-    ensures sent { (chip : Chip) (old new : Network Msg) (t : ℕ) (msg : Msg) → MessagesHold chip old → MessageFits chip msg
-        → after_send old t msg ≡ Some new → MessagesHold chip new }
-    ensures hopped { (chip : Chip) (old new : Network Msg) (r : ℕ) (port : Port) (slot : ℕ) → MessagesHold chip old
-        → after_data_hop chip.grid old r port slot ≡ Some new → MessagesHold chip new }
-    ensures came { (chip : Chip) (old new : Network Msg) (t : ℕ) (port : Port) (slot : ℕ) (msg : Msg) → MessagesHold chip old
-        → after_data_eject old t port slot ≡ Some (msg, new) → MessageCame chip msg new }
+    ensures sent { (chip : Chip) (old new : Network Msg) (t : ℕ) (msg : Msg)
+        → MessagesHold chip old → MessageFits chip msg → after_send old t msg ≡ Some new
+        → MessagesHold chip new }
+    ensures hopped { (chip : Chip) (old new : Network Msg) (r : ℕ) (port : Port) (slot : ℕ)
+        → MessagesHold chip old → after_data_hop chip.grid old r port slot ≡ Some new
+        → MessagesHold chip new }
+    ensures came { (chip : Chip) (old new : Network Msg) (t : ℕ) (port : Port) (slot : ℕ) (msg : Msg)
+        → MessagesHold chip old → after_data_eject old t port slot ≡ Some (msg, new)
+        → MessageCame chip msg new }
     ensures here { (old new : Network Msg) (t : ℕ) (port : Port) (slot : ℕ) (msg : Msg)
         → after_data_eject old t port slot ≡ Some (msg, new) → msg.to ≡ t }
 {
@@ -41,13 +44,16 @@ pub fn message_laws()
 
 /// The laws of sums over the messages in all channels, whatever each weighs. At run time it does nothing.
 pub fn weight_laws()
-    ensures none { (weight : Msg → ℕ) (g : Grid) (data_vcs : ℕ) → total weight (no_replies g data_vcs) ≡ 0 }
-    ensures adds { (weight : Msg → ℕ) (old new : Network Msg) (t : ℕ) (msg : Msg) → after_send old t msg ≡ Some new
-        → total weight new ≡ total weight old + weight msg }
-    ensures keeps { (weight : Msg → ℕ) (g : Grid) (old new : Network Msg) (r : ℕ) (port : Port) (slot : ℕ) → HasTiles g
-        → after_data_hop g old r port slot ≡ Some new → total weight new ≡ total weight old }
+    ensures none { (weight : Msg → ℕ) (g : Grid) (data_vcs : ℕ)
+        → total weight (no_replies g data_vcs) ≡ 0 }
+    ensures adds { (weight : Msg → ℕ) (old new : Network Msg) (t : ℕ) (msg : Msg)
+        → after_send old t msg ≡ Some new → total weight new ≡ total weight old + weight msg }
+    ensures keeps { (weight : Msg → ℕ) (g : Grid) (old new : Network Msg) (r : ℕ) (port : Port) (slot : ℕ)
+        → HasTiles g → after_data_hop g old r port slot ≡ Some new
+        → total weight new ≡ total weight old }
     ensures takes { (weight : Msg → ℕ) (old new : Network Msg) (t : ℕ) (port : Port) (slot : ℕ) (msg : Msg)
-        → after_data_eject old t port slot ≡ Some (msg, new) → total weight new + weight msg ≡ total weight old }
+        → after_data_eject old t port slot ≡ Some (msg, new)
+        → total weight new + weight msg ≡ total weight old }
 {
     route_laws();
 }

@@ -40,7 +40,8 @@ entry_is g old new q is =
     option_and_then_some (λ slot. Some (put old q.source (port_number L) slot (Some (arriving g q.source q)))) (lowest_free (channels_of old q.source) (port_number L)) new is (λ slot lowest done.
     record { slot = slot; lowest = lowest; made = sym (same_Some _ new done) })
 
-pub request_entered : (g : Grid) (vcs : ℕ) (old new : Network NetCopy) (q : Request) → q.source < tiles g → CopiesHold g vcs old → IsAbsent old (name_of q) → after_entry g old q ≡ Some new → RequestEntered g vcs q old new
+pub request_entered : (g : Grid) (vcs : ℕ) (old new : Network NetCopy) (q : Request) → q.source < tiles g → CopiesHold g vcs old → IsAbsent old (name_of q) → after_entry g old q ≡ Some new
+    → RequestEntered g vcs q old new
 request_entered g vcs old new q inside holds absent is =
     let entry = entry_is g old new q is in
     let arrives : Arrives g old new q.source (port_number L) entry.slot q (arriving g q.source q) =
@@ -61,7 +62,8 @@ record Hop (g : Grid) (old new : Network NetCopy) (r : ℕ) (port : Port) (slot 
   go : IsOpenHop g old r port slot out expected way
   made : new ≡ put (put old r (port_number port) slot (left_by out way.copy)) way.to (port_number (opposite out)) way.entry (Some (arriving g way.to way.copy.request))
 
-hop_is : (g : Grid) (old new : Network NetCopy) (r : ℕ) (port : Port) (slot : ℕ) (out : Port) (expected : Option Name) → after_hop g old r port slot out expected ≡ Some new → Hop g old new r port slot out expected
+hop_is : (g : Grid) (old new : Network NetCopy) (r : ℕ) (port : Port) (slot : ℕ) (out : Port) (expected : Option Name) → after_hop g old r port slot out expected ≡ Some new
+    → Hop g old new r port slot out expected
 unfolding after_hop
 hop_is g old new r port slot out expected is =
     option_and_then_some (λ copy. when (owes copy out) (goes copy)) (at old r (port_number port) slot) new is (λ copy stands rest.
@@ -86,7 +88,8 @@ hop_is g old new r port slot out expected is =
     when_some true o holds goal = goal refl holds
     when_some false o holds goal = cc
 
-pub copy_hopped : (g : Grid) (vcs : ℕ) (old new : Network NetCopy) (r : ℕ) (port : Port) (slot : ℕ) (out : Port) (expected : Option Name) → CopiesHold g vcs old → after_hop g old r port slot out expected ≡ Some new
+pub copy_hopped : (g : Grid) (vcs : ℕ) (old new : Network NetCopy) (r : ℕ) (port : Port) (slot : ℕ) (out : Port) (expected : Option Name) → CopiesHold g vcs old
+    → after_hop g old r port slot out expected ≡ Some new
     → CopyHopped g vcs r out expected old new
 copy_hopped g vcs old new r port slot out expected holds is =
     let hop = hop_is g old new r port slot out expected is in
@@ -141,7 +144,8 @@ service_is old new r name q is =
     served : ℕ × ℕ → NetCopy → Request × Network NetCopy
     served place copy = (copy.request, put old r place.0 place.1 (left_by L copy))
 
-pub request_served : (g : Grid) (vcs : ℕ) (old new : Network NetCopy) (r : ℕ) (name : Name) (q : Request) → CopiesHold g vcs old → after_serve old r name ≡ Some (q, new) → RequestServed g vcs r name q old new
+pub request_served : (g : Grid) (vcs : ℕ) (old new : Network NetCopy) (r : ℕ) (name : Name) (q : Request) → CopiesHold g vcs old → after_serve old r name ≡ Some (q, new)
+    → RequestServed g vcs r name q old new
 request_served g vcs old new r name q holds is =
     let service = service_is old new r name q is in
     let leaves = service.leaves in

@@ -34,7 +34,8 @@ pub normal_there : (g : Grid) (vcs : ℕ) (net : Network NetCopy) (r : ℕ) → 
 normal_there g vcs net r is inside = is.channels.slots r 0 (channels_of net r) (bank_there g vcs net r is inside) ∙ length-replicate vcs None
 
 -- ---- the routers stay sound
-sound-put : (g : Grid) (vcs : ℕ) (net new : Network NetCopy) (r p slot : ℕ) (packet : Option NetCopy) → CopiesHold g vcs net → HasPlace net r p slot → ((copy : NetCopy) → packet ≡ Some copy → IsOnTree g r copy) → OwesOnce g new → new ≡ put net r p slot packet
+sound-put : (g : Grid) (vcs : ℕ) (net new : Network NetCopy) (r p slot : ℕ) (packet : Option NetCopy) → CopiesHold g vcs net → HasPlace net r p slot
+    → ((copy : NetCopy) → packet ≡ Some copy → IsOnTree g r copy) → OwesOnce g new → new ≡ put net r p slot packet
     → CopiesHold g vcs new
 sound-put g vcs net new r p slot packet is place own once made = record {
   channels = subst (λ (net : Network NetCopy). HasChannels g vcs true net) (sym made) (HasChannels-put g vcs true net r p slot packet is.channels place);
@@ -44,12 +45,14 @@ sound-put g vcs net new r p slot packet is place own once made = record {
   };
 }
 
-pub sound-leave : {g : Grid} {vcs : ℕ} {net new : Network NetCopy} {r p slot : ℕ} {out : Port} {copy : NetCopy} {left : Option NetCopy} → CopiesHold g vcs net → Leaves net new r p slot out copy left → CopiesHold g vcs new
+pub sound-leave : {g : Grid} {vcs : ℕ} {net new : Network NetCopy} {r p slot : ℕ} {out : Port} {copy : NetCopy} {left : Option NetCopy} → CopiesHold g vcs net
+    → Leaves net new r p slot out copy left → CopiesHold g vcs new
 sound-leave {g} {vcs} {net} {new} {r} {p} {slot} {out} {copy} {left} is leaves =
     let on = is.fit.stand r p slot copy leaves.stands in
     sound-put g vcs net new r p slot left is (place_of net r p slot copy leaves.stands) (λ rest rest_is. stands_left g r out copy rest on (sym leaves.left_is ∙ rest_is)) (once-leave is.fit.once on leaves) leaves.made
 
-pub sound-arrive : {g : Grid} {vcs : ℕ} {net new : Network NetCopy} {r p slot : ℕ} {q : Request} {copy : NetCopy} → CopiesHold g vcs net → q.source < tiles g → r < tiles g → MayCome g net r q → Arrives g net new r p slot q copy → CopiesHold g vcs new
+pub sound-arrive : {g : Grid} {vcs : ℕ} {net new : Network NetCopy} {r p slot : ℕ} {q : Request} {copy : NetCopy} → CopiesHold g vcs net → q.source < tiles g → r < tiles g
+    → MayCome g net r q → Arrives g net new r p slot q copy → CopiesHold g vcs new
 sound-arrive {g} {vcs} {net} {new} {r} {p} {slot} {q} {copy} is source inside may arrives =
     sound-put g vcs net new r p slot (Some copy) is (free_place net r p slot arrives.free)
     (λ other same. subst (λ (c : NetCopy). IsOnTree g r c) (sym arrives.copy_is ∙ some_is copy other same) (stands_arriving g r q source inside))
@@ -60,7 +63,8 @@ sound-arrive {g} {vcs} {net} {new} {r} {p} {slot} {q} {copy} is source inside ma
 pub way_inside : (g : Grid) (r : ℕ) (out : Port) (to : ℕ) → r < tiles g → neighbour g r out ≡ Some to → to < tiles g
 way_inside g r out to inside next = neighbour_inside g r out to (has_tiles g r inside) next
 
-pub entry_beside : (g : Grid) (net mid : Network NetCopy) (r : ℕ) (port : Port) (slot : ℕ) (out side : Port) (expected : Option Name) (way : Way) (left : Option NetCopy) → HasTiles g → IsOpenHop g net r port slot out expected way
+pub entry_beside : (g : Grid) (net mid : Network NetCopy) (r : ℕ) (port : Port) (slot : ℕ) (out side : Port) (expected : Option Name) (way : Way) (left : Option NetCopy) → HasTiles g
+    → IsOpenHop g net r port slot out expected way
     → mid ≡ put net r (port_number port) slot left → side ≡ opposite out → IsFree (channels_of mid way.to) (port_number side) way.entry
 entry_beside g net mid r port slot out side expected way left some go mid_is side_is =
     let free = entry_is_free (channels_of net way.to) (opposite out) _ way.entry go.entry in
@@ -82,7 +86,8 @@ sound_empty g vcs = record {
 }
 
 -- the routers of a mesh of one's own with the size of the mesh that was given
-pub sound_opened : (own given : Grid) (vcs : ℕ) (net : Network NetCopy) → own.cols ≡ given.cols → own.rows ≡ given.rows → IsFrom 1 most_side given.cols → IsFrom 1 most_side given.rows → IsFrom 1 8 vcs → net ≡ no_copies given vcs
+pub sound_opened : (own given : Grid) (vcs : ℕ) (net : Network NetCopy) → own.cols ≡ given.cols → own.rows ≡ given.rows → IsFrom 1 most_side given.cols → IsFrom 1 most_side given.rows
+    → IsFrom 1 8 vcs → net ≡ no_copies given vcs
     → RoutersFit (record { grid = own; vcs = vcs; copies = net })
 sound_opened own given vcs net cols rows cols_limit rows_limit vcs_limit is =
     let some_column = cols_limit.low in

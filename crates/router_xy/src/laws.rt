@@ -63,14 +63,17 @@ pub fn copies_laws()
     ensures opened { (g : Grid) (vcs : ℕ) → CopiesHold g vcs (no_copies g vcs) }
 
     // A request of which no copy stands enters.
-    ensures enters { (g : Grid) (vcs : ℕ) (old new : Network NetCopy) (q : Request) → q.source < tiles g → CopiesHold g vcs old
-        → IsAbsent old (name_of q) → after_entry g old q ≡ Some new → RequestEntered g vcs q old new }
+    ensures enters { (g : Grid) (vcs : ℕ) (old new : Network NetCopy) (q : Request)
+        → q.source < tiles g → CopiesHold g vcs old → IsAbsent old (name_of q)
+        → after_entry g old q ≡ Some new → RequestEntered g vcs q old new }
 
     // A copy hops to a router that may expect its request.
     ensures hops { (g : Grid) (vcs : ℕ) (old new : Network NetCopy) (r : ℕ) (port : Port) (slot : ℕ) (out : Port) (expected : Option Name)
-        → CopiesHold g vcs old → after_hop g old r port slot out expected ≡ Some new → CopyHopped g vcs r out expected old new }
+        → CopiesHold g vcs old → after_hop g old r port slot out expected ≡ Some new
+        → CopyHopped g vcs r out expected old new }
 
     // A request is served to the router's own tile.
-    ensures serves { (g : Grid) (vcs : ℕ) (old new : Network NetCopy) (r : ℕ) (name : Name) (q : Request) → CopiesHold g vcs old
-        → after_serve old r name ≡ Some (q, new) → RequestServed g vcs r name q old new }
+    ensures serves { (g : Grid) (vcs : ℕ) (old new : Network NetCopy) (r : ℕ) (name : Name) (q : Request)
+        → CopiesHold g vcs old → after_serve old r name ≡ Some (q, new)
+        → RequestServed g vcs r name q old new }
 {}

@@ -8,14 +8,18 @@ ghost use Rattle.window_core.specs.WindowSteps.{TilePosts, TickPasses, TileTakes
 /// run time it does nothing.
 pub fn window_laws()
     // Windows fit their chip.
-    ensures opened { (chip : Chip) → 0 < chip.window → WindowsFit chip (opening_windows (tile_count chip)) }
-    ensures after_post { (chip : Chip) (old new : Windows) (t : ℕ) → WindowsFit chip old → after_post old t ≡ Some new → WindowsFit chip new }
-    ensures after_tick { (chip : Chip) (old new : Windows) → WindowsFit chip old → after_tick chip.window old ≡ Some new
-        → WindowsFit chip new }
-    ensures after_take { (chip : Chip) (old new : Windows) (t : ℕ) → WindowsFit chip old → after_take old t ≡ Some new → WindowsFit chip new }
+    ensures opened { (chip : Chip) → 0 < chip.window
+        → WindowsFit chip (opening_windows (tile_count chip)) }
+    ensures after_post { (chip : Chip) (old new : Windows) (t : ℕ) → WindowsFit chip old
+        → after_post old t ≡ Some new → WindowsFit chip new }
+    ensures after_tick { (chip : Chip) (old new : Windows) → WindowsFit chip old
+        → after_tick chip.window old ≡ Some new → WindowsFit chip new }
+    ensures after_take { (chip : Chip) (old new : Windows) (t : ℕ) → WindowsFit chip old
+        → after_take old t ≡ Some new → WindowsFit chip new }
 
     // What a step changes.
     ensures posts { (t : ℕ) (old new : Windows) → after_post old t ≡ Some new → TilePosts t old new }
-    ensures ticks { (ticks : ℕ) (old new : Windows) → after_tick ticks old ≡ Some new → TickPasses ticks old new }
+    ensures ticks { (ticks : ℕ) (old new : Windows) → after_tick ticks old ≡ Some new
+        → TickPasses ticks old new }
     ensures takes { (t : ℕ) (old new : Windows) → after_take old t ≡ Some new → TileTakes t old new }
 {}

@@ -28,7 +28,8 @@ steps c =
     let stands : at net c.args.r p c.in-Some.slot ≡ Some copy = seen_at c.deref.result.now net c.args.r p c.in-Some.slot _ _ c.deref.ensures.value c.packet_at.ensures c.in-Some-packet_at.is in
     rw (c.leave.ensures, c.left_by.ensures) (served_at net c.args.r c.args.id p c.in-Some.slot copy (seen_place net c.args.r c.args.id c.local_place.result c.in-Some.port c.in-Some.slot is c.in-Some.is) stands)
 
-serves : (c : goal.After-result-1) → RequestServed (grid c.self.inside.mesh) c.self.inside.vcs c.args.r c.args.id c.in-Some-packet_at.copy.request c.self.inside.banks.items c.leave.new.banks.items
+serves : (c : goal.After-result-1)
+    → RequestServed (grid c.self.inside.mesh) c.self.inside.vcs c.args.r c.args.id c.in-Some-packet_at.copy.request c.self.inside.banks.items c.leave.new.banks.items
 serves c = request_served (grid c.self.inside.mesh) c.self.inside.vcs c.self.inside.banks.items c.leave.new.banks.items c.args.r c.args.id c.in-Some-packet_at.copy.request c.self.invariant.copies (steps c)
 
 pub invariant_of-self : goal.invariant_of-self
