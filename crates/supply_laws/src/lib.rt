@@ -2,5 +2,7 @@
 #![tactic(auto)]
 
 mod laws;
+mod meetings;
 
 pub use laws::{get_laws, home_laws};
+pub use meetings::meeting_laws;
