@@ -1,8 +1,8 @@
 -- What the arrival of a message asks of a node holds where an event brings it: there is room in the queue for what the node
 -- sends.
-use Rattle.std.proofs.Common.{◌≡◌, ℕ, ◌+◌, ◌<◌, ◌≤◌, List, length, sym, ◌∙◌, ap, subst, arith, Some, None}
-use Rattle.std.specs.Prelude.{slice_get, slice_index_or}
+use Rattle.std.proofs.Common.{◌≡◌, ℕ, ◌+◌, ◌<◌, ◌≤◌, sym, ◌∙◌, ap, subst, arith, Some}
 use Rattle.std.specs.List.{count_by}
+use Rattle.std.specs.Prelude.{slice_get}
 use Rattle.mesh_gen.specs.declared.msg.Msg.{Msg}
 use Rattle.mesh_gen.specs.declared.msg_kind.MsgKind.{MsgKind}
 use Rattle.mesh_gen.specs.declared.msg_kind.MsgKind.TheVariants.{Back}
@@ -12,19 +12,17 @@ use Rattle.vc_bank.specs.Places.{Network}
 use Rattle.doc_text.specs.Doc.{Doc}
 use Rattle.chip_model.specs.Chip.{Chip, chip_of, tile_count, home}
 use Rattle.chip_model.specs.Replies.{after_data_eject}
-use Rattle.chip_model.specs.Records.{LineRecord}
-use Rattle.chip_model.specs.Node.{is_back, node_after_message}
+use Rattle.chip_model.specs.Node.{node_after_message}
 use Rattle.chip_model.specs.Units.{UnitState}
 use Rattle.chip_model.specs.ChipState.{ChipState}
-use Rattle.chip_model.specs.NetworkShape.{GoesTo, MessageFits}
+use Rattle.chip_model.specs.NodeShape.{SideFits}
+use Rattle.chip_model.specs.Suppliers.{is_data_for}
+use Rattle.chip_model.specs.NetworkShape.{GoesTo}
 use Rattle.chip_model.specs.ChipInvariant.{ProtocolHolds}
 use Rattle.reply_net.proofs.Accounts.{received_is}
-use Rattle.snoop_core.specs.Requests.{DataFits}
-use Rattle.snoop_core.proofs.ShapeSteps.{NodeFits-node_after_message}
 use Rattle.chip_laws.specs.DocFits.{DocFits}
 use Rattle.chip_laws.specs.Meetings.{ArrivalsFit}
-use Rattle.chip_laws.proofs.Each.{each_from}
-use Rattle.chip_laws.proofs.NodeMessages.{AllFit, AreInside, SendsFit, arrived_messages}
+use Rattle.chip_laws.proofs.NodeKeeps.{node_keeps, arrived_keeps}
 use Rattle.chip_laws.proofs.OrderFrames.{holds_at}
 use Rattle.chip_laws.proofs.RequestsInside.{tile_of, sends_fit, waiters_inside}
 use Rattle.chip_laws.proofs.SupplyDeliveries.{arrived_promises}
@@ -45,13 +43,11 @@ arrival_fits queue d s t port slot unit msg replies short fits holds arrive at c
     let here = holds_at d s holds t unit at in
     let node = here.holds.node in
     let awaited = arrive t port slot unit msg replies at comes in
-    let back = (NodeFits-node_after_message msg unit.node awaited node.fits).back in
-    let sends = sends_fit d s unit.node fits holds node.chip node.fits node.followed in
-    let few =
-    few_messages (chip_of d) (node_after_message msg unit.node).0.out
-    (messages node.chip message.line sends (λ r there. waiters_inside d s unit.node msg.line r fits holds here.holds.serves.waiters there) (each_from (MessageFits (chip_of d)) unit.node.out node.messages))
-    (λ x below. let own = tile_of d s x holds below in omega (arith, arrived_promises x msg unit.node node.fits.side, promised_once d s x t own.unit unit holds own.unit_at at))
-    (omega (arith, back)) in
+    let after =
+    arrived_keeps (chip_of d) s.network.ordered t here.interface msg unit.node awaited message.line (sends_fit d s unit.node fits holds node.chip node.fits node.followed)
+    (λ r there. waiters_inside d s unit.node msg.line r fits holds here.holds.serves.waiters there) (node_keeps d s t here.interface unit.node node) in
+    let back = after.fits.back in
+    let few = few_messages (chip_of d) (node_after_message msg unit.node).0.out after.messages (λ x below. once x below node.fits.side) (omega (arith, back)) in
     record {
       line = subst (λ (c : Chip). msg.line < c.lines) (sym node.chip) message.line;
       awaited = awaited;
@@ -59,8 +55,8 @@ arrival_fits queue d s t port slot unit msg replies short fits holds arrive at c
       room = omega (arith, few, short);
     }
   where
-    messages : unit.node.chip ≡ chip_of d → msg.line < (chip_of d).lines → SendsFit (chip_of d) unit.node.side
-        → ((r : LineRecord) → slice_index_or unit.node.records msg.line None ≡ Some r → AreInside (chip_of d) r.waiters) → AllFit (chip_of d) unit.node.out
-        → AllFit (chip_of d) (node_after_message msg unit.node).0.out
-    messages same = subst (λ (c : Chip). msg.line < c.lines → SendsFit c unit.node.side → ((r : LineRecord) → slice_index_or unit.node.records msg.line None ≡ Some r → AreInside c r.waiters) → AllFit c unit.node.out
-        → AllFit c (node_after_message msg unit.node).0.out) same (arrived_messages msg unit.node)
+    -- what the node has promised a tile stays, and is one answer at most
+    once : (x : ℕ) → x < tile_count (chip_of d) → SideFits unit.node.chip unit.node.side → count_by (is_data_for x) (node_after_message msg unit.node).0.out ≤ 1
+    once x below side =
+        let own = tile_of d s x holds below in
+        omega (arith, arrived_promises x msg unit.node side, promised_once d s x t own.unit unit holds own.unit_at at)

@@ -1,9 +1,9 @@
 -- What the delivery of a request asks of a node holds where an event delivers it: there is room for one tile more in the
 -- list of a demand and among those that wait at a home, and in the queue for what the node sends.
 use Rattle.std.proofs.Common.{◌≡◌, ◌≢◌, ℕ, ◌+◌, ◌<◌, ◌≤◌, Bool, true, false, cond, List, [], ◌∷◌, length, take, refl, sym, ◌∙◌, ap, subst, arith, Option, Some, None}
-use Rattle.std.specs.Prelude.{◌==◌, ◌&&◌, ◌||◌, not, IsTrue, is_some, slice_get, slice_index_or}
+use Rattle.std.specs.Prelude.{◌==◌, ◌&&◌, ◌||◌, IsTrue, is_some, slice_get}
 use Rattle.std.specs.List.{list_any}
-use Rattle.std.proofs.lemmas.Bool.{false≢true, eqb-true, not-true}
+use Rattle.std.proofs.lemmas.Bool.{false≢true, eqb-true, not-true, or_right}
 use Rattle.std.proofs.lemmas.Option.{slice_get_within}
 use Rattle.mesh_gen.specs.declared.kind.Kind.{Kind}
 use Rattle.mesh_gen.specs.declared.kind.Kind.TheVariants.{GetS, GetM, PutM}
@@ -15,7 +15,7 @@ use Rattle.chip_model.specs.declared.owner.Owner.TheVariants.{Memory, Tile}
 use Rattle.chip_model.specs.declared.waiting.Waiting.{Waiting}
 use Rattle.chip_model.specs.Chip.{Chip, chip_of, tile_count, home}
 use Rattle.chip_model.specs.Misses.{Demand, is_getm, ends_in_getm}
-use Rattle.chip_model.specs.OrderedNetwork.{OrderedNetwork, after_delivery}
+use Rattle.chip_model.specs.OrderedNetwork.{OrderedNetwork, Interface, after_delivery}
 use Rattle.chip_model.specs.Snoop.{OpenWrite, holding}
 use Rattle.chip_model.specs.Records.{LineRecord}
 use Rattle.chip_model.specs.Node.{Node, node_after_request}
@@ -23,20 +23,17 @@ use Rattle.chip_model.specs.Units.{UnitState}
 use Rattle.chip_model.specs.ChipState.{ChipState}
 use Rattle.chip_model.specs.Ownership.{owner, is_tile, owns, delivered_to}
 use Rattle.chip_model.specs.Bookkeeping.{is_get, is_get_of, between, up_to_getm, waiting_for}
-use Rattle.chip_model.specs.Suppliers.{count_of, delivered_at, supplier, is_to_come, places_in, places_at, places_after, promised_by, last_written_back, has_reached_memory, waiters_after, WaitersAreGets}
-use Rattle.chip_model.specs.NetworkShape.{MessageFits}
+use Rattle.chip_model.specs.Suppliers.{count_of, delivered_at, supplier, is_to_come, places_in, places_at, places_after, promised_by, last_written_back, has_reached_memory, waiters_after}
 use Rattle.chip_model.specs.ChipInvariant.{ProtocolHolds}
 use Rattle.mem_ctrl.specs.Owners.{record_of}
-use Rattle.mem_ctrl.specs.Waits.{Waits, TakesRequest}
-use Rattle.snoop_core.specs.Requests.{OwnRequestFits, ListHasRoom}
+use Rattle.mem_ctrl.specs.Waits.{Waits}
+use Rattle.snoop_core.specs.Requests.{OwnRequestFits}
 use Rattle.snoop_core.proofs.HoldingCases.{holding_open_write}
-use Rattle.snoop_core.proofs.ShapeSteps.{NodeFits-node_after_request}
 use Rattle.chip_laws.specs.DocFits.{DocFits}
-use Rattle.chip_laws.specs.Meetings.{DeliveriesFit}
 use Rattle.chip_laws.proofs.Calls.{own_requests_fit}
-use Rattle.chip_laws.proofs.Each.{each_from}
 use Rattle.chip_laws.proofs.Deliveries.{deliveries_fit}
-use Rattle.chip_laws.proofs.NodeMessages.{AllFit, AreInside, RequestInside, SendsFit, delivered_messages}
+use Rattle.chip_laws.proofs.NodeMessages.{RequestInside, SendsFit}
+use Rattle.chip_laws.proofs.NodeKeeps.{node_keeps, delivered_keeps}
 use Rattle.chip_laws.proofs.OrderFrames.{HoldsAt, holds_at}
 use Rattle.chip_laws.proofs.RequestsInside.{TileOf, tile_of, request_inside, sends_fit, waiters_inside}
 use Rattle.chip_laws.proofs.SupplyAccounts.{is_memory, promised}
@@ -91,18 +88,14 @@ tile_supplies : (chip : Chip) (t line : ℕ) (o : Owner) → is_tile t o ≡ tru
 tile_supplies chip t line Memory is = absurd (false≢true is)
 tile_supplies chip t line (Tile v) is = is
 
-either_true : (a b : Bool) → b ≡ true → (a || b) ≡ true
-either_true true b is = refl
-either_true false b is = is
-
 -- where the last one that waits is to write, one is to write
 ends_writes : (list : List Waiting) → ends_in_getm list ≡ true → list_any (λ (w : Waiting). is_getm w.kind) list ≡ true
 ends_writes [] ends = ends
 ends_writes (last ∷ []) ends = ap (λ (b : Bool). b || false) ends
-ends_writes (first ∷ next ∷ rest) ends = either_true (is_getm first.kind) (list_any (λ (w : Waiting). is_getm w.kind) (next ∷ rest)) (ends_writes (next ∷ rest) ends)
+ends_writes (first ∷ next ∷ rest) ends = or_right (is_getm first.kind) (list_any (λ (w : Waiting). is_getm w.kind) (next ∷ rest)) (ends_writes (next ∷ rest) ends)
 
 module _ (d : Doc) (s : ChipState) (t : ℕ) (unit : UnitState) (q : Request) (fits : DocFits d) (holds : ProtocolHolds d s) (at : slice_get s.units t ≡ Some unit)
-  (next : slice_get s.network.ordered unit.node.delivered ≡ Some q) where
+    (next : slice_get s.network.ordered unit.node.delivered ≡ Some q) where
   abbrev node : Node
   node = unit.node
 
@@ -145,20 +138,21 @@ module _ (d : Doc) (s : ChipState) (t : ℕ) (unit : UnitState) (q : Request) (f
   -- ---- the queue
   pub queue_room : OwnRequestFits node.tile node.side q → length (node_after_request q node).0.out ≤ tile_count (chip_of d) + 1
   queue_room own =
-      let after = (node_after_request q node).0 in
-      few_messages (chip_of d) after.out (messages here.holds.node.chip inside sends (each_from (MessageFits (chip_of d)) node.out here.holds.node.messages)) (λ x below.
+      let later : Interface = record here.interface { delivered = here.interface.delivered + 1 } in
+      let after =
+      delivered_keeps (chip_of d) s.network t here.interface later node q (holds.network.requests.agree t here.interface here.at) next inside sends here.holds.serves.owns refl refl
+      (node_keeps d s t here.interface node here.holds.node) in
+      let back = after.fits.back in
+      few_messages (chip_of d) (node_after_request q node).0.out after.messages (λ x below.
       omega (
         arith,
         promised_or_next d s t x unit q holds at next below,
         delivered_promises x q node here.holds.node.fits.side own,
         supplier_here s.network.ordered q node (count_if (is_get_of x q)) here.holds.node.fits here.holds.serves.owns line_here,
       ))
-      (let back = (NodeFits-node_after_request q node own here.holds.node.fits).back in omega (arith, back))
-    where
-      messages : node.chip ≡ chip_of d → RequestInside (chip_of d) q → SendsFit (chip_of d) node.side → AllFit (chip_of d) node.out → AllFit (chip_of d) (node_after_request q node).0.out
-      messages same = subst (λ (c : Chip). RequestInside c q → SendsFit c node.side → AllFit c node.out → AllFit c (node_after_request q node).0.out) same (delivered_messages q node)
+      (omega (arith, back))
 
-  -- ---- nobody who waits at a home that owns the line is to write
+  -- ---- nobody who waits at a home of a line that memory owns is to write
   waits_since : (place : Option ℕ) → last_written_back q.line (take node.delivered s.network.ordered) ≡ place → owner q.line (take node.delivered s.network.ordered) ≡ Memory
       → IsTrue (ends_in_getm (waiters_after s node q.line place)) → ⊥
   waits_since None last memory ends = false≢true ends
@@ -171,7 +165,7 @@ module _ (d : Doc) (s : ChipState) (t : ℕ) (unit : UnitState) (q : Request) (f
       by : (reached : Bool) → any_writes (gets_for q.line (between place node.delivered s.network.ordered)) ≡ false
           → ends_in_getm (cond {A = List Waiting} reached [] (waiting_for (up_to_getm (gets_for q.line (between place node.delivered s.network.ordered))))) ≡ true → ⊥
       by true none ends = false≢true ends
-      by false none ends = 
+      by false none ends =
           let xs = gets_for q.line (between place node.delivered s.network.ordered) in
           false≢true (sym none ∙ sym (any_waits xs) ∙ ends_writes (waiting_for (up_to_getm xs)) ends)
 

@@ -2,14 +2,13 @@
 use Rattle.std.proofs.Common.{◌≡◌, ◌≢◌, ℕ, zero, suc, ◌+◌, ◌<◌, ◌≤◌, Bool, true, false, List, [], ◌∷◌, ◌++◌, length, length-append, refl, sym, ◌∙◌, ap, arith, inl, inr}
 use Rattle.std.specs.Prelude.{◌==◌, ◌&&◌, ◌||◌, not}
 use Rattle.std.specs.List.{AllByRecursion, count_by}
-use Rattle.std.proofs.lemmas.Bool.{cases_eq, eq-eqb}
+use Rattle.std.proofs.lemmas.Bool.{cases_eq, eq-eqb, or_right}
 use Rattle.mesh_gen.specs.declared.request.Request.{Request}
 use Rattle.mesh_gen.specs.declared.msg.Msg.{Msg}
 use Rattle.mesh_gen.specs.Ports.{count_if}
 use Rattle.chip_model.specs.declared.waiting.Waiting.{Waiting}
 use Rattle.chip_model.specs.Chip.{Chip, tile_count}
 use Rattle.chip_model.specs.Node.{is_back}
-use Rattle.chip_model.specs.NetworkShape.{MessageFits}
 use Rattle.chip_model.specs.Suppliers.{is_data_for, places_in}
 use Rattle.chip_laws.proofs.Each.{each_append}
 use Rattle.chip_laws.proofs.NodeMessages.{AllFit, AreInside}
@@ -47,15 +46,11 @@ few_below of (suc n) xs once =
     let here = once n (omega arith) in
     omega (arith, one_tile_more of n xs, here, few_below of n xs (λ t below. once t (omega (arith, below))))
 
-either_holds : (a b : Bool) → b ≡ true → (a || b) ≡ true
-either_holds true b is = refl
-either_holds false b is = is
-
 found_below : {X : Type 0} (of : ℕ → X → Bool) (n t : ℕ) (x : X) → t < n → of t x ≡ true → is_below of n x ≡ true
 found_below of zero t x below is = absurd (omega (arith, below))
 found_below of (suc n) t x below is = elim (cases_eq t n) [
   | inl here ↦ ap (λ (b : Bool). b || is_below of n x) (ap (λ (k : ℕ). of k x) (sym here) ∙ is)
-  | inr away ↦ either_holds (of n x) (is_below of n x) (found_below of n t x (less t n below away) is)
+  | inr away ↦ or_right (of n x) (is_below of n x) (found_below of n t x (less t n below away) is)
 ] where
   less : (t n : ℕ) → t < suc n → t ≢ n → t < n
   less t n below away = omega (arith, below, away)

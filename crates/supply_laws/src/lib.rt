@@ -3,7 +3,9 @@
 #![tactic(auto)]
 
 mod laws;
+mod meetings;
 mod reachable;
 
 pub use laws::{get_laws, home_laws};
+pub use meetings::meeting_laws;
 pub use reachable::reachable_laws;
