@@ -56,9 +56,9 @@ noted_state b laws d s e h = record {
   protocol = noted_protocol d s e h.protocol;
   fit = h.fit;
   none_back = h.none_back;
-  data = record {
-    queued = λ u place unit msg at_unit at_msg kind. noted_waits s e msg.to msg.line (h.data.queued u place unit msg at_unit at_msg kind);
-    carried = λ router port slot msg stands kind. noted_waits s e msg.to msg.line (h.data.carried router port slot msg stands kind);
+  messages = record {
+    queued = λ u place unit msg at_unit at_msg kind. noted_waits s e msg.to msg.line (h.messages.queued u place unit msg at_unit at_msg kind);
+    carried = λ router port slot msg stands kind. noted_waits s e msg.to msg.line (h.messages.carried router port slot msg stands kind);
   };
 }
 

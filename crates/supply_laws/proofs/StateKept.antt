@@ -36,7 +36,7 @@ pub record StateParts (b : Behaviour) (laws : KeepsLaws b) (d : Doc) (s : ChipSt
   pub wait : AllGetsWait s
   pub fit : UnitsFit b laws s
   pub none_back : NoneWritesBackBefore s
-  pub data : DataAnswersGets s
+  pub messages : DataAnswersGets s
 
 -- they make the whole
 pub state_of_parts : (b : Behaviour) (laws : KeepsLaws b) (d : Doc) (s : ChipState) → StateParts b laws d s → StateHolds b laws d s
@@ -63,7 +63,7 @@ state_of_parts b laws d s p = record {
   };
   fit = p.fit;
   none_back = p.none_back;
-  data = p.data;
+  messages = p.messages;
 }
 
 -- the units that each tile runs, and the messages in their queues, of a state in which the protocol holds

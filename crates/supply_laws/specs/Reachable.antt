@@ -13,4 +13,4 @@ pub record StateHolds (b : Behaviour) (laws : KeepsLaws b) (d : Doc) (s : ChipSt
   pub protocol : ProtocolHolds d s
   pub fit : UnitsFit b laws s
   pub none_back : NoneWritesBackBefore s
-  pub data : DataAnswersGets s
+  pub messages : DataAnswersGets s

@@ -5,7 +5,8 @@ ghost use Rattle.report_text.specs.Report.{IsTabular};
 use mesh_gen::{Items, Kind, Port, Request};
 use outside_io::{MemSink, WriteFault};
 use report_text::{
-    Access, AccessKind, Entry, Event, Finish, Journal, Report, entry_laws, read_events, write_report,
+    Access, AccessKind, Entry, Event, Finish, Journal, Report, entry_laws, read_events,
+    write_report,
 };
 use std::alloc::{AllocError, Global};
 use std::test::Fail;

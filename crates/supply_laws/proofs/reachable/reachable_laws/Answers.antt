@@ -20,13 +20,13 @@ returns-clause-opened c = λ b laws d fits. state_of_parts b laws d (opening d) 
   wait = c.get_laws.ensures.wait_opened d;
   fit = c.unit_laws.ensures.opened b laws d fits;
   none_back = c.get_laws.ensures.puts_opened d;
-  data = c.get_laws.ensures.messages_opened d;
+  messages = c.get_laws.ensures.messages_opened d;
 })
 
 pub returns-clause-kept : goal.returns-clause-kept
 returns-clause-kept c = λ b laws d s new event fits holds e.
     let protocol = holds.protocol in
-    let arrive = c.get_laws.ensures.arrive d s protocol holds.data in
+    let arrive = c.get_laws.ensures.arrive d s protocol holds.messages in
     state_of_parts b laws d new (record {
       units = units_kept b d s new event e protocol.units;
       network = c.network_event_laws.ensures.kept b d s new event protocol.network (queues_of d s protocol) e;
@@ -40,7 +40,7 @@ returns-clause-kept c = λ b laws d s new event fits holds e.
       wait = c.get_laws.ensures.wait b laws d s new event fits protocol holds.fit holds.none_back e;
       fit = c.unit_laws.ensures.kept b laws (chip_of d) s new event holds.fit e;
       none_back = c.get_laws.ensures.puts b laws d s new event fits protocol holds.fit holds.none_back e;
-      data = c.get_laws.ensures.messages b laws d s new event fits protocol holds.fit holds.data e;
+      messages = c.get_laws.ensures.messages b laws d s new event fits protocol holds.fit holds.messages e;
     })
 
 pub returns-clause-reached : goal.returns-clause-reached
