@@ -26,7 +26,8 @@ use Rattle.snoop_core.proofs.SnoopSteps.{snoop_forms}
 use Rattle.snoop_core.proofs.Accesses.{access_forms, accessed_free}
 use Rattle.chip_laws.proofs.UnderWay.{completed_none}
 use Rattle.chip_laws.proofs.SuppliedComes.{OneOpen}
-use Rattle.supply_laws.proofs.GetPlaces.{get_of, NoGet, FirstGetIs, first_get, first_get_is, first_get_at, first_get_none, none_counts, open_place, at_waits, waits_for_none, undelivered_open, both_count}
+use Rattle.supply_laws.proofs.GetPlaces.{get_of, NoGet, FirstGetIs, first_get, first_get_is, first_get_at, first_get_none, none_counts}
+use Rattle.supply_laws.proofs.GetPlaces.{open_place, at_waits, waits_for_none, undelivered_open, both_count}
 
 -- the place stays, or the get is complete and no other one is ordered
 abbrev pub StaysOrEnds : Option ℕ → Option ℕ → Type 0

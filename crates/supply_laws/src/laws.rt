@@ -1,15 +1,16 @@
-ghost use Rattle.std.specs.Prelude.{◌≡◌, Some};
+ghost use Rattle.std.specs.Prelude.{◌≡◌, ℕ, List, Some, slice_get};
 ghost use Rattle.report_text.specs.declared.event.Event.{Event};
 ghost use Rattle.doc_text.specs.Doc.{Doc};
 ghost use Rattle.chip_model.specs.Chip.{chip_of};
-ghost use Rattle.chip_model.specs.Units.{Behaviour};
+ghost use Rattle.chip_model.specs.Misses.{Demand};
+ghost use Rattle.chip_model.specs.Units.{UnitState, Behaviour};
 ghost use Rattle.chip_model.specs.ChipState.{ChipState, opening};
 ghost use Rattle.chip_model.specs.Events.{step};
 ghost use Rattle.chip_model.specs.BehaviourLaws.{KeepsLaws};
 ghost use Rattle.chip_model.specs.ChipInvariant.{ProtocolHolds};
 ghost use Rattle.chip_laws.specs.DocFits.{DocFits};
 ghost use Rattle.chip_laws.specs.Meetings.{UnitsFit, ArrivalsFit};
-ghost use Rattle.supply_laws.specs.OpenGets.{NoneWritesBackBefore, DataAnswersGets, EachHasOneToCome, AllGetsWait};
+ghost use Rattle.supply_laws.specs.OpenGets.{NoneWritesBackBefore, WaitsFor, DataAnswersGets, EachHasOneToCome, AllGetsWait};
 ghost use Rattle.supply_laws.specs.HomeParts.{WordsReachMemory, HomesHold};
 
 /// The gets that are ordered and not complete: each tile has one at most, and is answered for it alone. At run time it does
@@ -32,7 +33,14 @@ pub fn get_laws()
     ensures messages { (b : Behaviour) (laws : KeepsLaws b) (d : Doc) (s new : ChipState)
         (event : Event) → DocFits d → ProtocolHolds d s → UnitsFit b laws s → DataAnswersGets s
         → step b (chip_of d) s event ≡ Some new → DataAnswersGets new }
-    ensures arrive { (d : Doc) (s : ChipState) → ProtocolHolds d s → DataAnswersGets s → ArrivalsFit s }
+    ensures arrive { (d : Doc) (s : ChipState)
+        → ProtocolHolds d s → DataAnswersGets s → ArrivalsFit s }
+
+    // Data that came before its request was delivered is for such a get too.
+    ensures early { (d : Doc) (s : ChipState) (t : ℕ) (unit : UnitState) (demand : Demand)
+        (words : List ℕ) → ProtocolHolds d s → slice_get s.units t ≡ Some unit
+        → unit.node.side.misses.demand ≡ Some demand → demand.early ≡ Some words
+        → WaitsFor s t demand.line }
 
     // No get is complete after an earlier GetM for its line that is not, or while words of the line are to reach memory.
     ensures wait_opened { (d : Doc) → AllGetsWait (opening d) }

@@ -1,4 +1,4 @@
-use Rattle.supply_laws.proofs.Arrivals.{arrivals_fit}
+use Rattle.supply_laws.proofs.Arrivals.{arrivals_fit, early_waits}
 use Rattle.supply_laws.proofs.DataKept.{data_answers_opened}
 use Rattle.supply_laws.proofs.GetEvents.{one_to_come_after, none_writes_back_after, data_answers_after, gets_wait_after}
 use Rattle.supply_laws.proofs.GetsKeepWaiting.{gets_wait_opened}
@@ -15,6 +15,7 @@ returns c = record {
   messages_opened = data_answers_opened;
   messages = λ b laws d s new event fits holds fit answers e. data_answers_after c.route_laws.ensures.nearer b laws d s new event fits holds fit e answers;
   arrive = arrivals_fit;
+  early = early_waits;
   wait_opened = gets_wait_opened;
   wait = λ b laws d s new event fits holds fit none e. gets_wait_after c.route_laws.ensures.nearer b laws d s new event fits holds fit e none;
 }
