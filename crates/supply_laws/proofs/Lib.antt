@@ -28,7 +28,7 @@ pub mod WaitingGets
 pub mod Carried
 pub mod DataKept
 pub mod NotedStates
-pub mod Reachable
+pub mod ReachedStates
 pub mod StateKept
 pub mod FewTiles
 pub mod DeliveryRoom

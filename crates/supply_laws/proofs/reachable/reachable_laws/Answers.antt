@@ -2,7 +2,7 @@
 use Rattle.chip_model.specs.Chip.{chip_of}
 use Rattle.chip_model.specs.Units.{in_order}
 use Rattle.chip_model.specs.ChipState.{opening}
-use Rattle.supply_laws.proofs.Reachable.{run_holds, cores_run}
+use Rattle.supply_laws.proofs.ReachedStates.{run_holds, cores_run}
 use Rattle.supply_laws.proofs.StateKept.{state_of_parts, shapes_of, queues_of, units_kept, units_opened}
 use Rattle.supply_laws.proofs.reachable.reachable_laws.Goals as goal
 
