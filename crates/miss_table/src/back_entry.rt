@@ -20,8 +20,12 @@ impl Model for BackEntry {
 
     ghost Value = { WriteBack };
 
-    ghost view = { λ entry. record { line = entry.line; words = entry.words; live = entry.live;
-        sent = entry.sent } };
+    ghost view = { λ entry. record {
+      line = entry.line;
+      words = entry.words;
+      live = entry.live;
+      sent = entry.sent;
+    } };
 }
 
 impl BackEntry {

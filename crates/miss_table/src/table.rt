@@ -134,8 +134,10 @@ impl MissTable {
     /// A tile waits for the demand for its words.
     pub fn append(&mut self, tile: u8, kind: Kind)
         requires { Holds (λ demand. TakesOneMore demand LIST_PLACES) self.old.demand }
-        ensures { self.new ≡ record self.old { demand = option_map
-            (followed_by (record { tile = tile; kind = kind })) self.old.demand } }
+        ensures { self.new ≡ record self.old {
+          demand = option_map
+              (followed_by (record { tile = tile; kind = kind })) self.old.demand;
+        } }
     {
         if let Some(demand) = &mut self.demand {
             demand.append(tile, kind);

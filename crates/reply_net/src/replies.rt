@@ -33,16 +33,20 @@ impl Model for Replies {
 
     ghost view = { λ replies. record { grid = grid replies.mesh; messages = replies.banks.items } };
 
-    ghost invariant = { λ replies. RepliesFit (record { grid = grid replies.mesh;
-        messages = replies.banks.items })
+    ghost invariant = { λ replies. RepliesFit (record {
+      grid = grid replies.mesh;
+      messages = replies.banks.items;
+    })
         × (replies.count ≡ message_count replies.banks.items) };
 }
 
 impl Replies {
     /// The network of a mesh, with no message.
     pub fn open(alloc: Global, mesh: &Mesh) -> Result<Replies, NoMemory>
-        ensures { IfOk result (λ replies. replies ≡ record { grid = grid mesh.now;
-            messages = no_replies (grid mesh.now) mesh.now.data_vcs }) }
+        ensures { IfOk result (λ replies. replies ≡ record {
+          grid = grid mesh.now;
+          messages = no_replies (grid mesh.now) mesh.now.data_vcs;
+        }) }
     {
         Ok(Replies {
             mesh: Mesh::of_size(alloc, mesh.cols, mesh.rows, mesh.window)?,

@@ -32,19 +32,28 @@ impl Model for Routers {
 
     ghost Value = { RequestNetwork };
 
-    ghost view = { λ routers. record { grid = grid routers.mesh; vcs = routers.vcs;
-        copies = routers.banks.items } };
+    ghost view = { λ routers. record {
+      grid = grid routers.mesh;
+      vcs = routers.vcs;
+      copies = routers.banks.items;
+    } };
 
-    ghost invariant = { λ routers. RoutersFit (record { grid = grid routers.mesh; vcs = routers.vcs;
-        copies = routers.banks.items }) };
+    ghost invariant = { λ routers. RoutersFit (record {
+      grid = grid routers.mesh;
+      vcs = routers.vcs;
+      copies = routers.banks.items;
+    }) };
 }
 
 impl Routers {
     /// The routers of a mesh, with no copy.
     pub fn open(alloc: Global, mesh: &Mesh) -> Result<Routers, NoMemory>
         ensures { IfOk result (λ routers.
-            routers ≡ record { grid = grid mesh.now; vcs = mesh.now.vcs;
-            copies = no_copies (grid mesh.now) mesh.now.vcs }) }
+            routers ≡ record {
+              grid = grid mesh.now;
+              vcs = mesh.now.vcs;
+              copies = no_copies (grid mesh.now) mesh.now.vcs;
+            }) }
     {
         Ok(Routers {
             mesh: Mesh::of_size(alloc, mesh.cols, mesh.rows, mesh.window)?,
@@ -102,7 +111,7 @@ impl Routers {
     ) -> Result<(), NotEnabled>
         ensures ok { OnOk result
             (after_hop self.old.grid self.old.copies r port slot out expected
-                ≡ Some self.new.copies) }
+            ≡ Some self.new.copies) }
         ensures err { OnErr result
             (after_hop self.old.grid self.old.copies r port slot out expected ≡ None) }
         ensures kept { OnErr result (self.new ≡ self.old) }

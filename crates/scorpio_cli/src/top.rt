@@ -20,7 +20,7 @@ pub fn scorpio<S: Source, K: Sink>(
     // It ended well: a whole text of the document was written.
     ensures ok { result.status ≡ 0
         → WritesText (map (λ word. word.now) words.now)
-            (S.left source.old) (K.held sink.old) (K.held sink.new) }
+        (S.left source.old) (K.held sink.old) (K.held sink.new) }
 
     // Why it ended otherwise.
     ensures usage { (result.status ≡ 1) ↔ IsNoForm (map (λ word. word.now) words.now) }
@@ -30,7 +30,7 @@ pub fn scorpio<S: Source, K: Sink>(
     ensures read_fault { result.status ≡ 4 → Rose (S.faults source.old) (S.faults source.new) }
     ensures write_fault { result.status ≡ 5 → Rose (K.faults sink.old) (K.faults sink.new)
         × WritesPart (map (λ word. word.now) words.now)
-            (S.left source.old) (K.held sink.old) (K.held sink.new) }
+        (S.left source.old) (K.held sink.old) (K.held sink.new) }
     ensures too_long { result.status ≡ 7 → IsTooLong (S.left source.old) (S.left source.new) }
     ensures statuses { IsStatus result.status }
     ensures at { result.at ≡ 0 }

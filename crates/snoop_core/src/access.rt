@@ -61,7 +61,7 @@ impl Node {
     fn plan_store(&self, line: u16, state: State, words: Words) -> Plan
         ensures plan { (access : Access) → line_of access.address ≡ line
             → store_to access (copy_of line (state, words)) self.now state
-                ≡ planned result access self.now }
+            ≡ planned result access self.now }
         ensures apart { StartsMiss result → is_written_back line self.now.side.misses.back ≡ false }
         ensures alone { StartsBack result → IsNone self.now.side.misses.back }
     {
@@ -75,7 +75,7 @@ impl Node {
     fn plan_upgrade(&self, line: u16) -> Plan
         ensures plan { (access : Access) → line_of access.address ≡ line
             → unless_written_back access self.now
-                (Some (demand_started access self.now.side self.now))
+            (Some (demand_started access self.now.side self.now))
             ≡ planned result access self.now }
         ensures apart { StartsMiss result → is_written_back line self.now.side.misses.back ≡ false }
         ensures alone { StartsBack result → IsNone self.now.side.misses.back }
@@ -93,7 +93,7 @@ impl Node {
     fn plan_absent(&self, line: u16) -> Plan
         ensures plan { (access : Access) → line_of access.address ≡ line
             → unless_written_back access self.now (missed access self.now)
-                ≡ planned result access self.now }
+            ≡ planned result access self.now }
         ensures apart { StartsMiss result → is_written_back line self.now.side.misses.back ≡ false }
         ensures alone { StartsBack result → IsNone self.now.side.misses.back }
         ensures no_hit { (words : List ℕ) → result ≢ Plan.HitStore words }
@@ -124,7 +124,7 @@ impl Node {
     fn plan_back(&self, line: u16) -> Plan
         ensures plan { (access : Access)
             → back_started self.now (lookup self.now.chip self.now.side.cache line)
-                ≡ planned result access self.now }
+            ≡ planned result access self.now }
         ensures alone { StartsBack result → IsNone self.now.side.misses.back }
         ensures no_hit { (words : List ℕ) → result ≢ Plan.HitStore words }
     {

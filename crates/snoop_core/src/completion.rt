@@ -79,7 +79,7 @@ fn keep_loaded(cache: &mut LineCache, line: u16, words: Words, once: bool)
     requires { Fits cache.old line }
     ensures kept { (chip : Chip) → HasSets chip cache.old
         → cache.new ≡ (if once then cache.old else installed chip
-            (copy_of line (State.S, words)) cache.old) }
+        (copy_of line (State.S, words)) cache.old) }
     ensures sets { length cache.new ≡ length cache.old }
 {
     if !once {
@@ -105,7 +105,7 @@ impl Snooper {
         ensures side { (demand : Demand) → self.old.side.misses.demand ≡ Some demand
             → demand.line ≡ line → demand.pending ≡ pending
             → self.new ≡ after_outcome
-                (completed_store self.old.chip demand place words self.old.side) self.old }
+            (completed_store self.old.chip demand place words self.old.side) self.old }
         ensures sent { (demand : Demand) → self.old.side.misses.demand ≡ Some demand
             → out.new ≡ out.old ++ data_to_all line (written_by pending words) demand.list }
         ensures done { result ≡ done_by pending (place + 1) words }
@@ -132,7 +132,7 @@ impl Snooper {
         ensures side { (demand : Demand) → self.old.side.misses.demand ≡ Some demand
             → demand.line ≡ line → demand.once ≡ once
             → self.new ≡ after_outcome
-                (completed_load self.old.chip demand place words self.old.side) self.old }
+            (completed_load self.old.chip demand place words self.old.side) self.old }
         ensures done { result ≡ done_by pending (place + 1) words }
     {
         let _ = self.misses.finish_demand();

@@ -36,7 +36,7 @@ pub fn ownership_laws()
         → OwnRequestFits tile side q → (line : ℕ) (owner : Owner)
         → owns chip side line ≡ is_tile tile owner
         → owns chip (after_snoop chip tile side place q).side line
-            ≡ is_tile tile (owner_after line owner q) }
+        ≡ is_tile tile (owner_after line owner q) }
     ensures kept { (chip : Chip) (side : CacheSide) (words : List ℕ) (line : ℕ) → SideFits chip side
         → owns chip (after_data chip side words).side line ≡ owns chip side line }
 

@@ -90,7 +90,7 @@ impl Node {
         requires { address < 4 * self.now.chip.lines }
         ensures { (value : ℕ)
             → result ≡ is_some (node_after_access
-                (record { kind = kind; address = address; value = value }) self.now) }
+            (record { kind = kind; address = address; value = value }) self.now) }
     {
         match self.plan(kind, self.snooper.line_of(address)) {
             Plan::Refuse => false,
@@ -113,7 +113,7 @@ impl Node {
         requires { address < 4 * self.old.chip.lines }
         ensures ok { IfOk result (λ outcome.
             node_after_access (record { kind = kind; address = address; value = value }) self.old
-                ≡ Some (self.new, access_performed outcome)) }
+            ≡ Some (self.new, access_performed outcome)) }
         ensures err { OnErr result (node_after_access
             (record { kind = kind; address = address; value = value }) self.old ≡ None) }
         ensures kept { OnErr result (self.new ≡ self.old) }
@@ -189,7 +189,7 @@ impl Node {
         ensures owners { (line : ℕ) (owner : Owner)
             → owns self.old.chip self.old.side line ≡ is_tile self.old.tile owner
             → owns self.new.chip self.new.side line
-                ≡ is_tile self.new.tile (owner_after line owner q) }
+            ≡ is_tile self.new.tile (owner_after line owner q) }
         ensures records { (line : ℕ)
             → owner_in self.new.records line ≡ next_owner line q (owner_in self.old.records line) }
     {

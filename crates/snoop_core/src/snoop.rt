@@ -34,7 +34,7 @@ fn unowned(back: Option<BackLook>, demand: Option<DemandLook>, line: u16, shared
     ensures { (misses : Misses) → back ≡ option_map back_look misses.back
         → demand ≡ option_map demand_look misses.demand
         → result ≡ told (holding_unowned shared (live_for line misses.back)
-            (ordered_for line misses.demand)) }
+        (ordered_for line misses.demand)) }
 {
     match back {
         Some(back) if back.live && back.line == line => Holding::LiveBack(back.words),
