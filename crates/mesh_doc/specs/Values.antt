@@ -1,5 +1,5 @@
 -- What values say that keep to their limits.
-use Rattle.std.specs.Prelude.{ℕ, ◌+◌, ◌-◌, ◌*◌, max, nat_le, ℤ, pos, negsuc, Bool, true, false, ◌&&◌, if◌then◌else◌, List, [], ◌∷◌, ◌++◌, length, Option, Some, None, option_map, option_and_then, is_some}
+use Rattle.std.specs.Prelude.{ℕ, ◌+◌, ◌-◌, ◌*◌, max, nat_le, ℤ, pos, negsuc, Bool, true, false, ◌&&◌, if◌then◌else◌, List, [], ◌∷◌, ◌++◌, length, Option, Some, None, option_map, is_some}
 use Rattle.mesh_gen.specs.Partial.{when, ◌>>=◌}
 use Rattle.mesh_gen.specs.TileSet.{is_among}
 use Rattle.toml.specs.Data.{Data, integer, Members, as_integer, as_array}

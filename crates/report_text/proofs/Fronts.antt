@@ -1,8 +1,8 @@
 -- What stands after a byte that a search found, and the parts that a loop over `split` takes.
-use Rattle.std.proofs.Common.{◌≡◌, ℕ, Bool, true, false, ◌+◌, List, [], Option, Some, None, cond, ltb, length, map, ◌<◌, take, drop, refl, sym, ap, ◌∙◌, arith}
-use Rattle.std.specs.List.{position_or_len, before_first, after_first}
+use Rattle.std.proofs.Common.{◌≡◌, ℕ, Bool, ◌+◌, List, [], Option, Some, None, length, map, ◌<◌, drop, sym, ap, ◌∙◌, arith}
+use Rattle.std.specs.List.{after_first}
 use Rattle.std.proofs.lemmas.Bool.{ltb-false}
-use Rattle.std.proofs.lemmas.List.{take_all, drop_all, drop-drop}
+use Rattle.std.proofs.lemmas.List.{drop_all, drop-drop}
 use Rattle.std.proofs.lemmas.Option.{cond_some}
 use Rattle.core_isa.proofs.Scanning.{found_at, none_is_false}
 use Rattle.std.specs.Iterator.{Yields}

@@ -1,6 +1,5 @@
 -- What the reader finds in the words of a line, word by word. That this is the event whose line it is, is proved.
-use Rattle.std.specs.Prelude.{ℕ, ◌+◌, ◌-◌, ◌*◌, ◌==◌, Bool, ◌&&◌, List, [], ◌∷◌, Option, Some, None, length, map, codes, slice_index, if◌then◌else◌, nat_le}
-use Rattle.std.specs.Borrow.{Bor}
+use Rattle.std.specs.Prelude.{ℕ, ◌+◌, ◌-◌, ◌*◌, ◌==◌, Bool, ◌&&◌, List, [], ◌∷◌, Option, Some, None, length, codes, slice_index, if◌then◌else◌, nat_le}
 use Rattle.std.specs.Char.{is_ascii_digit}
 use Rattle.std.specs.List.{find, slice_split}
 use Rattle.std.specs.Option.{option_and_then}
