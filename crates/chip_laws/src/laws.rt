@@ -24,13 +24,16 @@ pub fn behaviour_laws()
 /// it does nothing.
 pub fn unit_laws()
     // Each is one that its kind of core comes to.
-    ensures opened { (b : Behaviour) (laws : KeepsLaws b) (d : Doc) → DocFits d → UnitsFit b laws (opening d) }
-    ensures kept { (b : Behaviour) (laws : KeepsLaws b) (chip : Chip) (s new : ChipState) (event : Event) → UnitsFit b laws s
+    ensures opened { (b : Behaviour) (laws : KeepsLaws b) (d : Doc) → DocFits d
+        → UnitsFit b laws (opening d) }
+    ensures kept { (b : Behaviour) (laws : KeepsLaws b) (chip : Chip) (s new : ChipState)
+        (event : Event) → UnitsFit b laws s
         → step b chip s event ≡ Some new → UnitsFit b laws new }
 
     // Each runs its tile's program, on a core of eight registers.
     ensures shaped { (d : Doc) → UnitsKeepShape d (opening d) }
-    ensures stepped { (b : Behaviour) (laws : KeepsLaws b) (d : Doc) (s new : ChipState) (event : Event) → UnitsFit b laws s
+    ensures stepped { (b : Behaviour) (laws : KeepsLaws b) (d : Doc) (s new : ChipState)
+        (event : Event) → UnitsFit b laws s
         → UnitsKeepShape d s → step b (chip_of d) s event ≡ Some new → UnitsKeepShape d new }
 {}
 
@@ -38,15 +41,18 @@ pub fn unit_laws()
 /// demand. At run time it does nothing.
 pub fn node_event_laws()
     ensures opened { (d : Doc) → NodesHold d (opening d) }
-    ensures stepped { (b : Behaviour) (laws : KeepsLaws b) (d : Doc) (s new : ChipState) (event : Event) → DocFits d
+    ensures stepped { (b : Behaviour) (laws : KeepsLaws b) (d : Doc) (s new : ChipState)
+        (event : Event) → DocFits d
         → ProtocolHolds d s → UnitsFit b laws s → ArrivalsFit s
         → step b (chip_of d) s event ≡ Some new → NodesHold d new }
 
     // What a tile delivers is the next request of the order; its own is the one of what its node waits for.
     ensures next { (d : Doc) (s : ChipState) → DocFits d → ProtocolHolds d s → DeliveriesFit d s }
-    ensures own { (d : Doc) (s : ChipState) (t : ℕ) (unit : UnitState) (q : Request) (net : OrderedNetwork) → DocFits d
+    ensures own { (d : Doc) (s : ChipState) (t : ℕ) (unit : UnitState) (q : Request)
+        (net : OrderedNetwork) → DocFits d
         → ProtocolHolds d s → slice_get s.units t ≡ Some unit
-        → after_delivery (chip_of d) s.network t ≡ Some (q, net) → OwnRequestFits unit.node.tile unit.node.side q }
+        → after_delivery (chip_of d) s.network t ≡ Some (q, net)
+        → OwnRequestFits unit.node.tile unit.node.side q }
 {}
 
 /// The two networks of a chip, whatever its cores are: what holds of them before any event, and after every event as long as
@@ -65,7 +71,8 @@ pub fn network_event_laws()
 /// time it does nothing.
 pub fn core_order_laws()
     ensures opened { (d : Doc) → CoresInOrder (opening d) }
-    ensures stepped { (d : Doc) (s new : ChipState) (event : Event) → ProtocolHolds d s → CoresInOrder s
+    ensures stepped { (d : Doc) (s new : ChipState) (event : Event) → ProtocolHolds d s
+        → CoresInOrder s
         → step in_order (chip_of d) s event ≡ Some new → CoresInOrder new }
 {}
 
@@ -74,13 +81,15 @@ pub fn core_order_laws()
 pub fn order_laws()
     // Ownership, writers, and that accesses are made in time.
     ensures writers_opened { (d : Doc) → WritersHold d (opening d) }
-    ensures writers { (b : Behaviour) (laws : KeepsLaws b) (d : Doc) (s new : ChipState) (event : Event)
+    ensures writers { (b : Behaviour) (laws : KeepsLaws b) (d : Doc) (s new : ChipState)
+        (event : Event)
         → DocFits d → ProtocolHolds d s → UnitsFit b laws s
         → step b (chip_of d) s event ≡ Some new → WritersHold d new }
 
     // Each get is answered from exactly one place.
     ensures supplied_opened { (d : Doc) → GetsAreSupplied d (opening d) }
-    ensures supplied { (b : Behaviour) (laws : KeepsLaws b) (d : Doc) (s new : ChipState) (event : Event)
+    ensures supplied { (b : Behaviour) (laws : KeepsLaws b) (d : Doc) (s new : ChipState)
+        (event : Event)
         → DocFits d → ProtocolHolds d s → UnitsFit b laws s
         → step b (chip_of d) s event ≡ Some new → GetsAreSupplied d new }
 {

@@ -28,7 +28,8 @@ pub(crate) fn complete(
 ) -> Option<Access>
     requires next { IfSome done (λ one. access_next program.now core.old ≡ Some one.kind) }
     requires steps { core.old.steps + 1 < 2 ^ 63 }
-    ensures { (unit : UnitState) (node : Node) → unit.node.tile ≡ tile → unit.program ≡ program.now → unit.core ≡ core.old
+    ensures { (unit : UnitState) (node : Node) → unit.node.tile ≡ tile
+        → unit.program ≡ program.now → unit.core ≡ core.old
         → performed unit (node, done) ≡ (record unit { node = node; core = core.new }, result) }
 {
     let done = done?;

@@ -35,7 +35,8 @@ pub trait Unit: Sized + Send + Drop {
     ) -> Result<Self, NoMemory>
         requires tile { tile < tile_count (chip_of_mesh mesh.now) }
         requires memory { length memory.now ≡ 4 * mesh.now.lines }
-        ensures { IfOk result (λ unit. meaning unit ≡ opening_unit (chip_of_mesh mesh.now) tile program memory.now) };
+        ensures { IfOk result (λ unit. meaning unit
+            ≡ opening_unit (chip_of_mesh mesh.now) tile program memory.now) };
 
     /// Its node.
     fn node(&self) -> &Node
@@ -48,7 +49,8 @@ pub trait Unit: Sized + Send + Drop {
     /// A core event, and the access that it performed. It is not enabled where the core is not ready.
     fn core_step(&mut self) -> Result<Option<Access>, NotEnabled>
         requires steps { (meaning self.old).core.steps + 1 < 2 ^ 63 }
-        ensures ok { IfOk result (λ access. behaviour.stepped (meaning self.old) ≡ (meaning self.new, access)) }
+        ensures ok { IfOk result (λ access. behaviour.stepped (meaning self.old)
+            ≡ (meaning self.new, access)) }
         ensures ready { OnOk result (behaviour.ready (meaning self.old) ≡ true) }
         ensures err { OnErr result (behaviour.ready (meaning self.old) ≡ false) }
         ensures kept { OnErr result (self.new ≡ self.old) };
@@ -59,8 +61,11 @@ pub trait Unit: Sized + Send + Drop {
         requires line { q.line < (meaning self.old).node.chip.lines }
         requires count { (meaning self.old).node.delivered + 1 < 2 ^ 63 }
         requires own { OwnRequestFits (meaning self.old).node.tile (meaning self.old).node.side q }
-        requires list { ListHasRoom LIST_PLACES (meaning self.old).node.chip (meaning self.old).node.tile (meaning self.old).node.side q }
-        requires waiting { (r : LineRecord) → record_of (meaning self.old).node.records q.line ≡ Some r → TakesRequest q LIST_PLACES r }
+        requires list { ListHasRoom LIST_PLACES (meaning self.old).node.chip
+            (meaning self.old).node.tile (meaning self.old).node.side q }
+        requires waiting { (r : LineRecord)
+            → record_of (meaning self.old).node.records q.line ≡ Some r
+            → TakesRequest q LIST_PLACES r }
         requires room { length (node_after_request q (meaning self.old).node).0.out ≤ QUEUE_PLACES }
         requires steps { (meaning self.old).core.steps + 1 < 2 ^ 63 }
         ensures { behaviour.delivered q (meaning self.old) ≡ (meaning self.new, result) };
@@ -69,7 +74,8 @@ pub trait Unit: Sized + Send + Drop {
     fn receive(&mut self, m: Msg) -> Option<Access>
         requires line { m.line < (meaning self.old).node.chip.lines }
         requires awaited { DataFits (meaning self.old).node.side m }
-        requires home { m.kind ≡ MsgKind.Back → home (meaning self.old).node.chip m.line ≡ (meaning self.old).node.tile }
+        requires home { m.kind ≡ MsgKind.Back
+            → home (meaning self.old).node.chip m.line ≡ (meaning self.old).node.tile }
         requires room { length (node_after_message m (meaning self.old).node).0.out ≤ QUEUE_PLACES }
         requires steps { (meaning self.old).core.steps + 1 < 2 ^ 63 }
         ensures { behaviour.received m (meaning self.old) ≡ (meaning self.new, result) };
@@ -77,12 +83,14 @@ pub trait Unit: Sized + Send + Drop {
     /// The request that the node wanted is sent.
     fn mark_sent(&mut self)
         requires { IsSome (wanted (meaning self.old).node.side.misses) }
-        ensures { meaning self.new ≡ record (meaning self.old) { node = after_request_sent (meaning self.old).node } };
+        ensures { meaning self.new ≡ record
+            (meaning self.old) { node = after_request_sent (meaning self.old).node } };
 
     /// The message that was next in the node's queue is sent.
     fn drop_out(&mut self)
         requires { IsSome (slice_get (meaning self.old).node.out 0) }
-        ensures { meaning self.new ≡ record (meaning self.old) { node = after_message_sent (meaning self.old).node } };
+        ensures { meaning self.new ≡ record
+            (meaning self.old) { node = after_message_sent (meaning self.old).node } };
 
     /// Whether a core event has halted the core.
     fn halted(&self) -> bool

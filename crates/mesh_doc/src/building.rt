@@ -57,7 +57,8 @@ fn read_programs(
     requires { tiles.now ≡ map (core_tile count) (parts_seen cores.now) }
     ensures faults { Ends (flat_map (bad_program count) (parts_seen cores.now)) result }
     ensures programs { IfOk result (λ placed.
-        placed.items ≡ map (program_of_tile count (parts_seen cores.now)) (range_with_len 0 count)) }
+        placed.items ≡ map (program_of_tile count (parts_seen cores.now))
+        (range_with_len 0 count)) }
 {
     let programs = assemble_cores(alloc, cores, tiles, count)?;
     Ok(place_programs(alloc, programs, cores, tiles, count)?)

@@ -56,7 +56,8 @@ pub(crate) fn place_programs(
     requires programs { programs.items ≡ map program_in (parts_seen cores.now) }
     requires tiles { tiles.now ≡ map (core_tile count) (parts_seen cores.now) }
     ensures { IfOk result (λ placed.
-        placed.items ≡ map (program_of_tile count (parts_seen cores.now)) (range_with_len 0 count)) }
+        placed.items ≡ map (program_of_tile count (parts_seen cores.now))
+        (range_with_len 0 count)) }
 {
     let mut placed = empty_programs(alloc, count)?;
     let mut left = programs;

@@ -179,10 +179,13 @@ impl OrderedNet {
     /// The tile makes its next request, which enters its router. Refused exactly where it is no tile, or its router's
     /// local port has no free channel.
     pub fn inject(&mut self, t: u8, kind: Kind, line: u16) -> Result<Request, NoChannel>
-        ensures ok { OnOk result (after_inject self.old.chip self.old.network t kind line ≡ Some self.new.network) }
-        ensures request { IfOk result (λ q. (interface : Interface) → slice_get self.old.network.interfaces t ≡ Some interface
+        ensures ok { OnOk result (after_inject self.old.chip self.old.network t kind line
+            ≡ Some self.new.network) }
+        ensures request { IfOk result (λ q. (interface : Interface)
+            → slice_get self.old.network.interfaces t ≡ Some interface
             → q ≡ next_request t interface kind line) }
-        ensures err { OnErr result (after_inject self.old.chip self.old.network t kind line ≡ None) }
+        ensures err { OnErr result (after_inject self.old.chip self.old.network t kind line
+            ≡ None) }
         ensures kept { OnErr result (self.new ≡ self.old) }
         ensures sizes { SameSizes self.old self.new }
     {
@@ -219,8 +222,10 @@ impl OrderedNet {
     /// no tile posted.
     pub fn tick(&mut self) -> Result<(), NotEnabled>
         requires { length self.old.network.ordered + tile_count self.old.chip ≤ self.old.room }
-        ensures ok { OnOk result (after_network_tick self.old.chip self.old.network ≡ Some self.new.network) }
-        ensures few { length self.new.network.ordered ≤ length self.old.network.ordered + tile_count self.old.chip }
+        ensures ok { OnOk result (after_network_tick self.old.chip self.old.network
+            ≡ Some self.new.network) }
+        ensures few { length self.new.network.ordered
+            ≤ length self.old.network.ordered + tile_count self.old.chip }
         ensures err { OnErr result (after_network_tick self.old.chip self.old.network ≡ None) }
         ensures kept { OnErr result (self.new ≡ self.old) }
         ensures sizes { SameSizes self.old self.new }
@@ -247,7 +252,8 @@ impl OrderedNet {
     /// The tile takes the vector of the next closed window. Refused exactly where it has taken all of them, or is no tile.
     pub fn take(&mut self, t: u8) -> Result<(), NotEnabled>
         ensures ok { OnOk result (after_vector_take self.old.network t ≡ Some self.new.network) }
-        ensures moves { OnOk result (moves_done self.new.network ≡ moves_done self.old.network + 1) }
+        ensures moves { OnOk result (moves_done self.new.network
+            ≡ moves_done self.old.network + 1) }
         ensures err { OnErr result (after_vector_take self.old.network t ≡ None) }
         ensures kept { OnErr result (self.new ≡ self.old) }
         ensures sizes { SameSizes self.old self.new }
@@ -269,9 +275,12 @@ impl OrderedNet {
     /// A copy of a request leaves a channel of the router `r` by a side that it owes, and comes to the next router.
     /// Refused exactly where the channel holds no such copy, no router stands there, or that has no channel for it.
     pub fn hop(&mut self, r: u8, port: Port, slot: u8, out: Port) -> Result<(), NotEnabled>
-        ensures ok { OnOk result (after_copy_hop self.old.chip self.old.network r port slot out ≡ Some self.new.network) }
-        ensures moves { OnOk result (moves_done self.new.network ≡ moves_done self.old.network + 1) }
-        ensures err { OnErr result (after_copy_hop self.old.chip self.old.network r port slot out ≡ None) }
+        ensures ok { OnOk result (after_copy_hop self.old.chip self.old.network r port slot out
+            ≡ Some self.new.network) }
+        ensures moves { OnOk result (moves_done self.new.network
+            ≡ moves_done self.old.network + 1) }
+        ensures err { OnErr result (after_copy_hop self.old.chip self.old.network r port slot out
+            ≡ None) }
         ensures kept { OnErr result (self.new ≡ self.old) }
         ensures sizes { SameSizes self.old self.new }
     {
@@ -284,9 +293,12 @@ impl OrderedNet {
     /// The tile delivers the request that comes next in the order. Refused exactly where it knows of none, or no copy of it
     /// is there.
     pub fn eject(&mut self, t: u8) -> Result<Request, NotEnabled>
-        ensures ok { IfOk result (λ q. after_delivery self.old.chip self.old.network t ≡ Some (q, self.new.network)) }
-        ensures in_order { IfOk result (λ q. slice_get self.old.network.ordered (slice_index (delivered_counts self.old.network) t) ≡ Some q) }
-        ensures moves { OnOk result (moves_done self.new.network ≡ moves_done self.old.network + 1) }
+        ensures ok { IfOk result (λ q. after_delivery self.old.chip self.old.network t
+            ≡ Some (q, self.new.network)) }
+        ensures in_order { IfOk result (λ q. slice_get self.old.network.ordered
+            (slice_index (delivered_counts self.old.network) t) ≡ Some q) }
+        ensures moves { OnOk result (moves_done self.new.network
+            ≡ moves_done self.old.network + 1) }
         ensures err { OnErr result (after_delivery self.old.chip self.old.network t ≡ None) }
         ensures kept { OnErr result (self.new ≡ self.old) }
         ensures sizes { SameSizes self.old self.new }
@@ -362,7 +374,8 @@ impl OrderedNet {
 impl OrderedNet {
     // The next request of a tile, if it is one.
     fn next_request(&self, t: u8, kind: Kind, line: u16) -> Option<Request>
-        ensures { result ≡ option_map (λ interface. next_request t interface kind line) (slice_get self.now.network.interfaces t) }
+        ensures { result ≡ option_map (λ interface. next_request t interface kind line)
+            (slice_get self.now.network.interfaces t) }
     {
         let number = *self.made.get(usize::from(t))?;
         Some(Request {

@@ -19,7 +19,8 @@ pub(crate) fn empty_lists(
     mesh: &Mesh,
 ) -> Result<Vec<HeapCircularBuffer<Request>>, NoMemory>
     ensures { IfOk result (λ lists.
-        lists.items ≡ replicate (tiles (grid mesh.now)) (buffer [] (tiles (grid mesh.now) * (5 * mesh.now.vcs + 4)))) }
+        lists.items ≡ replicate (tiles (grid mesh.now))
+        (buffer [] (tiles (grid mesh.now) * (5 * mesh.now.vcs + 4)))) }
 {
     let tiles = mesh.tiles();
     let channels = usize::from(tiles) * (5 * usize::from(mesh.vcs) + 4);
@@ -32,8 +33,10 @@ pub(crate) fn empty_lists(
 
 // Adds a request to those of its source.
 pub(crate) fn add(lists: &mut Vec<HeapCircularBuffer<Request>>, q: Request)
-    requires { length (unordered_at lists.old.items q.source).items < (unordered_at lists.old.items q.source).capacity }
-    ensures { lists.new.items ≡ slice_set lists.old.items q.source (with_last (unordered_at lists.old.items q.source) q) }
+    requires { length (unordered_at lists.old.items q.source).items <
+        (unordered_at lists.old.items q.source).capacity }
+    ensures { lists.new.items ≡ slice_set lists.old.items q.source
+        (with_last (unordered_at lists.old.items q.source) q) }
 {
     if let Some(list) = lists.get_mut(usize::from(q.source)) {
         list.push_back(q);
@@ -53,7 +56,8 @@ pub(crate) fn is_none_left(lists: &[HeapCircularBuffer<Request>], t: u8) -> bool
 // Takes the first of a tile's requests away.
 fn take_lowest(lists: &mut Vec<HeapCircularBuffer<Request>>, t: u8) -> Option<Request>
     ensures lowest { result ≡ lowest_of lists.old.items t }
-    ensures lists { lists.new.items ≡ slice_set lists.old.items t (without_first (unordered_at lists.old.items t)) }
+    ensures lists { lists.new.items ≡ slice_set lists.old.items t
+        (without_first (unordered_at lists.old.items t)) }
 {
     match lists.get_mut(usize::from(t)) {
         Some(list) => list.pop_front(),
@@ -70,7 +74,8 @@ fn order_first(
 )
     requires tile { t < 64 }
     requires room { length ordered.old.items < vec_capacity ordered.old }
-    ensures ordered { ordered.new.items ≡ ordered.old.items ++ filter_map (lowest_of lists.old.items) (filter (has_tile set) (upwards t 1)) }
+    ensures ordered { ordered.new.items ≡ ordered.old.items ++ filter_map
+        (lowest_of lists.old.items) (filter (has_tile set) (upwards t 1)) }
     ensures lists { LoseLowest t (t + 1) set lists.old.items lists.new.items }
     ensures room { vec_capacity ordered.new ≡ vec_capacity ordered.old }
 {
@@ -91,7 +96,8 @@ fn order_by_priority(
 )
     requires tiles { (from ≤ to) × (to ≤ 64) }
     requires room { length ordered.old.items + (to - from) ≤ vec_capacity ordered.old }
-    ensures ordered { ordered.new.items ≡ ordered.old.items ++ filter_map (lowest_of lists.old.items) (filter (has_tile set) (upwards from (to - from))) }
+    ensures ordered { ordered.new.items ≡ ordered.old.items ++ filter_map
+        (lowest_of lists.old.items) (filter (has_tile set) (upwards from (to - from))) }
     ensures lists { LoseLowest from to set lists.old.items lists.new.items }
     ensures room { vec_capacity ordered.new ≡ vec_capacity ordered.old }
 {
@@ -110,7 +116,8 @@ pub(crate) fn order_window(
 )
     requires tiles { (0 < tiles) × (tiles ≤ 64) }
     requires room { length ordered.old.items + tiles ≤ vec_capacity ordered.old }
-    ensures ordered { ordered.new.items ≡ ordered.old.items ++ filter_map (lowest_of lists.old.items) (expansion tiles number set) }
+    ensures ordered { ordered.new.items ≡ ordered.old.items ++ filter_map
+        (lowest_of lists.old.items) (expansion tiles number set) }
     ensures lists { LoseLowest 0 tiles set lists.old.items lists.new.items }
     ensures room { vec_capacity ordered.new ≡ vec_capacity ordered.old }
 {

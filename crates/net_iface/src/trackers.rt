@@ -11,7 +11,8 @@ use std::alloc::Global;
 
 // A tracker for each tile of a mesh, before any window.
 pub(crate) fn new_trackers(alloc: Global, mesh: &Mesh) -> Result<Vec<Tracker>, NoMemory>
-    ensures { IfOk result (λ trackers. AreUnused (tiles (grid mesh.now)) (tiles (grid mesh.now) * (5 * mesh.now.vcs + 4)) trackers.items) }
+    ensures { IfOk result (λ trackers. AreUnused (tiles (grid mesh.now))
+        (tiles (grid mesh.now) * (5 * mesh.now.vcs + 4)) trackers.items) }
 {
     let tiles = mesh.tiles();
     let mut trackers = Vec::with_capacity(alloc, usize::from(tiles))?;
@@ -33,7 +34,8 @@ pub(crate) fn expected_by(trackers: &[Tracker], t: u8) -> Option<(u8, u32)>
 
 // A tile's tracker takes in the vector of its next window.
 pub(crate) fn take_in(trackers: &mut Vec<Tracker>, t: u8, vector: u64)
-    requires { (tracker : TrackerState) → slice_get trackers.old.items t ≡ Some tracker → MayTakeIn vector tracker }
+    requires { (tracker : TrackerState) → slice_get trackers.old.items t ≡ Some tracker
+        → MayTakeIn vector tracker }
     ensures { (tracker : TrackerState) → slice_get trackers.old.items t ≡ Some tracker
         → trackers.new.items ≡ slice_set trackers.old.items t (with_window tracker vector) }
 {
@@ -44,7 +46,8 @@ pub(crate) fn take_in(trackers: &mut Vec<Tracker>, t: u8, vector: u64)
 
 // A tile's tracker passes over the request that comes next.
 pub(crate) fn pass_over(trackers: &mut Vec<Tracker>, t: u8)
-    requires { (tracker : TrackerState) → slice_get trackers.old.items t ≡ Some tracker → MayPass tracker }
+    requires { (tracker : TrackerState) → slice_get trackers.old.items t ≡ Some tracker
+        → MayPass tracker }
     ensures { PassesAt t trackers.old.items trackers.new.items }
 {
     if let Some(tracker) = trackers.get_mut(usize::from(t)) {

@@ -16,10 +16,13 @@ use mesh_gen::route_laws;
 /// The laws of replies, over every list of calls on every grid with tiles: each message that was put in stands in
 /// exactly one channel or was taken, and not both, and it was taken by the tile that it names. At run time it does nothing.
 pub fn reply_laws()
-    ensures once { (g : Grid) (data_vcs : ℕ) (events : List ReplyEvent) (account : Account) → HasTiles g
+    ensures once { (g : Grid) (data_vcs : ℕ) (events : List ReplyEvent) (account : Account)
+        → HasTiles g
         → account_of g (opening_account g data_vcs) events ≡ Some account → IsBalanced account }
-    ensures at_their_tiles { (g : Grid) (data_vcs : ℕ) (events : List ReplyEvent) (account : Account)
-        → account_of g (opening_account g data_vcs) events ≡ Some account → AreAtTheirTiles account }
+    ensures at_their_tiles { (g : Grid) (data_vcs : ℕ) (events : List ReplyEvent)
+        (account : Account)
+        → account_of g (opening_account g data_vcs) events ≡ Some account
+        → AreAtTheirTiles account }
 {
     route_laws();
 }
@@ -33,7 +36,8 @@ pub fn message_laws()
     ensures hopped { (chip : Chip) (old new : Network Msg) (r : ℕ) (port : Port) (slot : ℕ)
         → MessagesHold chip old → after_data_hop chip.grid old r port slot ≡ Some new
         → MessagesHold chip new }
-    ensures came { (chip : Chip) (old new : Network Msg) (t : ℕ) (port : Port) (slot : ℕ) (msg : Msg)
+    ensures came { (chip : Chip) (old new : Network Msg) (t : ℕ) (port : Port) (slot : ℕ)
+        (msg : Msg)
         → MessagesHold chip old → after_data_eject old t port slot ≡ Some (msg, new)
         → MessageCame chip msg new }
     ensures here { (old new : Network Msg) (t : ℕ) (port : Port) (slot : ℕ) (msg : Msg)
@@ -48,10 +52,12 @@ pub fn weight_laws()
         → total weight (no_replies g data_vcs) ≡ 0 }
     ensures adds { (weight : Msg → ℕ) (old new : Network Msg) (t : ℕ) (msg : Msg)
         → after_send old t msg ≡ Some new → total weight new ≡ total weight old + weight msg }
-    ensures keeps { (weight : Msg → ℕ) (g : Grid) (old new : Network Msg) (r : ℕ) (port : Port) (slot : ℕ)
+    ensures keeps { (weight : Msg → ℕ) (g : Grid) (old new : Network Msg) (r : ℕ) (port : Port)
+        (slot : ℕ)
         → HasTiles g → after_data_hop g old r port slot ≡ Some new
         → total weight new ≡ total weight old }
-    ensures takes { (weight : Msg → ℕ) (old new : Network Msg) (t : ℕ) (port : Port) (slot : ℕ) (msg : Msg)
+    ensures takes { (weight : Msg → ℕ) (old new : Network Msg) (t : ℕ) (port : Port) (slot : ℕ)
+        (msg : Msg)
         → after_data_eject old t port slot ≡ Some (msg, new)
         → total weight new + weight msg ≡ total weight old }
 {

@@ -26,6 +26,7 @@ pub fn entry_laws()
     ensures count { (entry : Entry) → length (recorded entry) ≡ entry.cores + 1 }
 
     // Each word records an event at least, and names the tile of its entry.
-    ensures some { (words : List ℕ) → AreEntryWords words → length words ≤ length (events_of words) }
+    ensures some { (words : List ℕ) → AreEntryWords words
+        → length words ≤ length (events_of words) }
     ensures named { (entry : Entry) → IsValid entry → tile_named (packed entry) ≡ entry.by }
 {}

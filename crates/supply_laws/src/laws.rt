@@ -56,13 +56,15 @@ pub fn get_laws()
 pub fn home_laws()
     // The words of each request that writes a line back reach memory, by one message.
     ensures memory_opened { (d : Doc) → WordsReachMemory (opening d) }
-    ensures memory { (b : Behaviour) (laws : KeepsLaws b) (d : Doc) (s new : ChipState) (event : Event) → DocFits d
+    ensures memory { (b : Behaviour) (laws : KeepsLaws b) (d : Doc) (s new : ChipState)
+        (event : Event) → DocFits d
         → ProtocolHolds d s → UnitsFit b laws s
         → step b (chip_of d) s event ≡ Some new → WordsReachMemory new }
 
     // The records are fresh where the order says so, and those wait at them of whom the order says so.
     ensures homes_opened { (d : Doc) → HomesHold (opening d) }
-    ensures homes { (b : Behaviour) (laws : KeepsLaws b) (d : Doc) (s new : ChipState) (event : Event) → DocFits d
+    ensures homes { (b : Behaviour) (laws : KeepsLaws b) (d : Doc) (s new : ChipState)
+        (event : Event) → DocFits d
         → ProtocolHolds d s → UnitsFit b laws s → NoneWritesBackBefore s
         → step b (chip_of d) s event ≡ Some new → HomesHold new }
 {

@@ -20,10 +20,13 @@ use chip_laws::{
 /// of events. At run time it does nothing.
 pub fn reachable_laws()
     // Of whatever cores: the opening, each event, and so every run.
-    ensures opened { (b : Behaviour) (laws : KeepsLaws b) (d : Doc) → DocFits d → StateHolds b laws d (opening d) }
-    ensures kept { (b : Behaviour) (laws : KeepsLaws b) (d : Doc) (s new : ChipState) (event : Event) → DocFits d
+    ensures opened { (b : Behaviour) (laws : KeepsLaws b) (d : Doc) → DocFits d
+        → StateHolds b laws d (opening d) }
+    ensures kept { (b : Behaviour) (laws : KeepsLaws b) (d : Doc) (s new : ChipState)
+        (event : Event) → DocFits d
         → StateHolds b laws d s → step b (chip_of d) s event ≡ Some new → StateHolds b laws d new }
-    ensures reached { (b : Behaviour) (laws : KeepsLaws b) (d : Doc) (events : List Event) (s : ChipState) → DocFits d
+    ensures reached { (b : Behaviour) (laws : KeepsLaws b) (d : Doc) (events : List Event)
+        (s : ChipState) → DocFits d
         → run b (chip_of d) (opening d) events ≡ Some s → StateHolds b laws d s }
 
     // Of in-order cores.

@@ -18,8 +18,10 @@ pub fn window_laws()
         → after_take old t ≡ Some new → WindowsFit chip new }
 
     // What a step changes.
-    ensures posts { (t : ℕ) (old new : Windows) → after_post old t ≡ Some new → TilePosts t old new }
+    ensures posts { (t : ℕ) (old new : Windows) → after_post old t ≡ Some new
+        → TilePosts t old new }
     ensures ticks { (ticks : ℕ) (old new : Windows) → after_tick ticks old ≡ Some new
         → TickPasses ticks old new }
-    ensures takes { (t : ℕ) (old new : Windows) → after_take old t ≡ Some new → TileTakes t old new }
+    ensures takes { (t : ℕ) (old new : Windows) → after_take old t ≡ Some new
+        → TileTakes t old new }
 {}

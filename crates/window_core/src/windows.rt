@@ -41,7 +41,8 @@ impl Model for Windows {
 impl Windows {
     /// Windows before any tick, with room for so many closed ones.
     pub fn open(alloc: Global, mesh: &Mesh, room: u64) -> Result<Windows, NoMemory>
-        ensures { IfOk result (λ windows. windows ≡ opening_state (grid mesh.now) mesh.now.window room) }
+        ensures { IfOk result (λ windows. windows
+            ≡ opening_state (grid mesh.now) mesh.now.window room) }
     {
         let tiles = usize::from(mesh.tiles());
         Ok(Windows {
@@ -120,8 +121,10 @@ impl Windows {
     /// vector. A window in which no tile posted does not tick.
     pub fn tick(&mut self) -> Result<Option<u64>, NotEnabled>
         requires { length self.old.windows.closed < self.old.room }
-        ensures ok { OnOk result (after_tick self.old.ticks self.old.windows ≡ Some self.new.windows) }
-        ensures vector { IfOk result (λ vector. vector ≡ closed_by_tick self.old.ticks self.old.windows) }
+        ensures ok { OnOk result (after_tick self.old.ticks self.old.windows
+            ≡ Some self.new.windows) }
+        ensures vector { IfOk result (λ vector. vector
+            ≡ closed_by_tick self.old.ticks self.old.windows) }
         ensures err { OnErr result (after_tick self.old.ticks self.old.windows ≡ None) }
         ensures kept { OnErr result (self.new ≡ self.old) }
         ensures sizes { SameSizes self.old self.new }
