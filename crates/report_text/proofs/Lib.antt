@@ -1,4 +1,5 @@
 pub mod Packing
+pub mod Journals
 pub mod Pieces
 pub mod Sections
 pub mod Fronts

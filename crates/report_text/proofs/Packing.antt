@@ -157,3 +157,9 @@ packed-some word near some entry valid e =
   where
     same : Some near ≡ Some entry → near ≡ entry
     same h = cc
+
+-- the tile that a packed word names
+pub tile_named-packed : (entry : Entry) → IsValid entry → packed entry / 2 ^ 20 % 64 ≡ entry.by
+tile_named-packed entry valid =
+    by_field entry.cores entry.by (event_form entry.event).number (fields_of (event_form entry.event).operands) (fields_fit entry.event valid.event) (number-lt entry.event)
+    (omega (arith, valid.tile))

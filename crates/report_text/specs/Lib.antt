@@ -8,4 +8,5 @@ pub mod Reading
 pub mod Scanning
 pub mod Telling
 pub mod Unpacking
+pub mod Journals
 pub mod WorkedRun

@@ -1,11 +1,8 @@
-use crate::{Access, Event, Finish};
+use crate::{Access, Finish, Journal};
 use mesh_gen::{Counts, Image, Items, Requests};
 
 /// Accesses, in an order.
 pub type Accesses = Items<Access>;
-
-/// Events, in the order in which they were done.
-pub type Journal = Items<Event>;
 
 /// What a run leaves to tell.
 #[derive(Debug, Drop)]

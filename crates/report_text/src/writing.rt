@@ -1,12 +1,14 @@
 ghost use Rattle.std.specs.Prelude.{◌≡◌, ◌≤◌, length, OnOk, OnErr};
 ghost use Rattle.outside_io.specs.Streams.{Rose, Appends, AppendsPart};
+ghost use Rattle.report_text.specs.Journals.{IsEntryWord, recorded_by};
 ghost use Rattle.report_text.specs.Lines.{text_of_lines};
-ghost use Rattle.report_text.specs.Report.{IsTabular, request_part, tile_part, access_part, memory_part, count_part, journal_part, report_text};
+ghost use Rattle.report_text.specs.Unpacking.{entry_near};
+ghost use Rattle.report_text.specs.Report.{IsTabular, request_part, tile_part, access_part, memory_part, count_part, event_rows, journal_part, report_text};
 
 use crate::rows::{
     access_line, count_line, event_line, finish_line, memory_line, request_line, tile_line,
 };
-use crate::{Access, Event, Report};
+use crate::{Access, Entry, Event, Journal, Report};
 use mesh_gen::Request;
 use outside_io::{Sink, WriteFault};
 
@@ -23,7 +25,7 @@ pub fn write_report<K: Sink>(report: &Report, sink: &mut K) -> Result<(), WriteF
     write_accesses(report.accesses.as_slice(), sink)?;
     write_memory(report.memory.as_slice(), sink)?;
     write_counts(report.windows, report.hops, sink)?;
-    write_journal(report.journal.as_slice(), sink)?;
+    write_journal(&report.journal, sink)?;
     finish_line(report.ended).write(sink)
 }
 
@@ -91,15 +93,33 @@ fn write_counts<K: Sink>(windows: u64, hops: u64, sink: &mut K) -> Result<(), Wr
     count_line("hops", hops).write(sink)
 }
 
-fn write_journal<K: Sink>(events: &[Event], sink: &mut K) -> Result<(), WriteFault>
-    ensures ok { OnOk result (Appends (K.held sink.old) (K.held sink.new) (text_of_lines (journal_part events.now))) }
-    ensures err { OnErr result (AppendsPart (K.held sink.old) (K.held sink.new) (text_of_lines (journal_part events.now))) }
+fn write_journal<K: Sink>(journal: &Journal, sink: &mut K) -> Result<(), WriteFault>
+    ensures ok { OnOk result (Appends (K.held sink.old) (K.held sink.new) (text_of_lines (journal_part journal.now))) }
+    ensures err { OnErr result (AppendsPart (K.held sink.old) (K.held sink.new) (text_of_lines (journal_part journal.now))) }
     ensures fault { OnErr result (Rose (K.faults sink.old) (K.faults sink.new)) }
     ensures count { K.faults sink.old ≤ K.faults sink.new }
 {
-    count_line("journal", events.len() as u64).write(sink)?;
-    for event in events {
-        event_line(event).write(sink)?;
+    count_line("journal", journal.length()).write(sink)?;
+    for word in journal.words() {
+        write_entry(*word, sink)?;
     }
     Ok(())
+}
+
+// The events that the word of an entry records.
+fn write_entry<K: Sink>(word: u64, sink: &mut K) -> Result<(), WriteFault>
+    requires { IsEntryWord word }
+    ensures ok { OnOk result (Appends (K.held sink.old) (K.held sink.new) (text_of_lines (event_rows (recorded_by (entry_near word))))) }
+    ensures err { OnErr result (AppendsPart (K.held sink.old) (K.held sink.new) (text_of_lines (event_rows (recorded_by (entry_near word))))) }
+    ensures fault { OnErr result (Rose (K.faults sink.old) (K.faults sink.new)) }
+    ensures count { K.faults sink.old ≤ K.faults sink.new }
+{
+    let Some(entry) = Entry::unpack(word) else {
+        unreachable!()
+    };
+    let core = Event::Core { t: entry.by };
+    for _ in 0..entry.cores {
+        event_line(&core).write(sink)?;
+    }
+    event_line(&entry.event).write(sink)
 }

@@ -1,0 +1,23 @@
+ghost use Rattle.report_text.specs.Journals.{tile_named};
+
+use crate::Fabric;
+use turn_table::Turned;
+
+// The turns of a fabric are the entries of its journal, and each names the tile that made it.
+impl Turned for Fabric {
+    ghost entries = { λ fabric. fabric.entries };
+
+    ghost names = { tile_named };
+
+    fn turns(&self) -> u64 {
+        self.log.words()
+    }
+}
+
+// A fabric may be moved to another thread.
+fn is_send<T: Send>() {}
+
+/// At run time it does nothing.
+fn fabric_is_send() {
+    is_send::<Fabric>();
+}

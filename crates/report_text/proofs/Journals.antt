@@ -1,0 +1,40 @@
+-- What packed words record.
+use Rattle.std.proofs.Common.{◌≡◌, ℕ, ◌+◌, ◌≤◌, List, [], ◌∷◌, ◌++◌, All, length, refl, sym, ap, subst, ◌∙◌, arith, Some, replicate}
+use Rattle.std.specs.List.{flat_map}
+use Rattle.std.proofs.lemmas.Grind.{flat_map-append}
+use Rattle.std.proofs.lemmas.List.{append-nil, length-append, length-replicate}
+use Rattle.report_text.specs.declared.entry.Entry.{Entry}
+use Rattle.report_text.specs.declared.event.Event.{Event}
+use Rattle.report_text.specs.declared.event.Event.TheVariants.{Core}
+use Rattle.report_text.specs.Entry.{packed, IsValid}
+use Rattle.report_text.specs.Unpacking.{entry_near}
+use Rattle.report_text.specs.Journals.{recorded, recorded_by, IsEntryWord, AreEntryWords, events_of}
+use Rattle.report_text.proofs.Packing.{entry_near-packed}
+
+-- the word of an entry records the entry's events
+pub recorded-packed : (entry : Entry) → IsValid entry → recorded_by (entry_near (packed entry)) ≡ recorded entry
+recorded-packed entry valid = ap recorded_by (entry_near-packed entry valid)
+
+-- one entry more
+pub events_of-append : (words : List ℕ) (entry : Entry) → IsValid entry → events_of (words ++ packed entry ∷ []) ≡ events_of words ++ recorded entry
+events_of-append words entry valid =
+    flat_map-append (λ word. recorded_by (entry_near word)) words (packed entry ∷ [])
+    ∙ ap (λ (events : List Event). events_of words ++ events) (append-nil (recorded_by (entry_near (packed entry))) ∙ recorded-packed entry valid)
+
+-- it records those of the core, and one
+pub length-recorded : (entry : Entry) → length (recorded entry) ≡ entry.cores + 1
+length-recorded entry =
+    length-append (replicate entry.cores (Core entry.by)) (entry.event ∷ []) ∙ ap (λ n. n + 1) (length-replicate entry.cores (Core entry.by))
+
+-- each word records an event at least
+word_records : (word : ℕ) → IsEntryWord word → 1 ≤ length (recorded_by (entry_near word))
+word_records word is =
+    subst (λ (w : ℕ). 1 ≤ length (recorded_by (entry_near w))) is.is
+    (omega (arith, ap (λ (events : List Event). length events) (recorded-packed is.entry is.valid), length-recorded is.entry))
+
+pub words_record : (words : List ℕ) → AreEntryWords words → length words ≤ length (events_of words)
+words_record [] all = omega arith
+words_record (word ∷ words) all =
+    let rest : length (events_of (word ∷ words)) ≡ length (recorded_by (entry_near word)) + length (events_of words) =
+    length-append (recorded_by (entry_near word)) (events_of words) in
+    omega (arith, rest, word_records word all.0, words_record words all.1)
