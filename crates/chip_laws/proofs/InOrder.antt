@@ -114,7 +114,7 @@ lines_still unit node same some = subst (λ (c : Chip). 0 < c.lines) (sym same) 
 unit_goes : (unit : UnitState) (node : Node) (done : Option Done) → InOrderUnit unit → StepGoesOn (ReadsFor (next_effect unit)) unit.node (node, done) → UnitGoesOn unit (node, done) (performed unit (node, done))
 unit_goes unit node None is step = record {
   fits = unit_from (record unit { node = node }) (record { lines = lines_still unit node step.chip is.lines; buffered = is.buffered; waits = step.goes.waits });
-  goes = record { same = record { program = refl; tile = refl; steps = omega arith }; node = refl; answers = (refl, inl refl) };
+  goes = record { same = record { program = refl; tile = refl; registers = refl; steps = omega arith }; node = refl; answers = (refl, inl refl) };
   halted = refl;
 }
 unit_goes unit node (Some done) is step =
@@ -131,7 +131,7 @@ unit_goes unit node (Some done) is step =
         waits = λ demand stands. none_some demand (sym none ∙ stands);
       });
       goes = record {
-        same = record { program = refl; tile = goes.tile; steps = omega arith };
+        same = record { program = refl; tile = goes.tile; registers = goes.registers; steps = omega arith };
         node = refl;
         answers = (unit.core.steps, refl, inl (record { number = refl; counts = less; buffered = refl; writes_last = λ writes. is.buffered }));
       };
@@ -188,8 +188,9 @@ becomes_goes (Jmp target) core new e = grind arith
 becomes_goes (Tid rd) core new e = grind (arith, length-set {A = ℕ})
 becomes_goes Halt core new e = cc
 
-alone_law : (unit after : UnitState) → InOrderUnit after → SameUnit unit after → after.node ≡ unit.node → after.buffered ≡ unit.buffered → CoreLaw unit (after, None)
-alone_law unit after is same node buffered = (unit_from after is, inl (record { same = same; node = node; reads = _; buffers = λ none. inl buffered }))
+alone_law : (unit after : UnitState) → InOrderUnit after → SameUnit unit after → after.node ≡ unit.node → unit.node.side.misses.demand ≡ None
+    → after.buffered ≡ unit.buffered → CoreLaw unit (after, None)
+alone_law unit after is same node free buffered = (unit_from after is, inl (record { same = same; node = node; no_demand = free; reads = _; buffers = λ none. inl buffered }))
 
 executed_law : (unit : UnitState) (effect : Effect) (acted : Acted) → InOrderUnit unit → unit.node.side.misses.demand ≡ None → next_effect unit ≡ effect → executed unit effect ≡ Some acted → CoreLaw unit acted
 executed_law unit (Becomes core) acted is free next e =
@@ -198,12 +199,12 @@ executed_law unit (Becomes core) acted is free next e =
     subst (CoreLaw unit) (same_Some {A = Acted} (after, None) acted e)
     (alone_law unit after
     (record { lines = is.lines; buffered = is.buffered; waits = λ demand stands. none_some demand (sym free ∙ stands) })
-    (record { program = refl; tile = goes.tile; steps = omega (arith, goes.steps) }) refl refl)
+    (record { program = refl; tile = goes.tile; registers = goes.registers; steps = omega (arith, goes.steps) }) refl free refl)
 executed_law unit Halts acted is free next e =
     subst (CoreLaw unit) (same_Some {A = Acted} (record unit { halted = true }, None) acted e)
     (alone_law unit (record unit { halted = true })
     (record { lines = is.lines; buffered = is.buffered; waits = λ demand stands. none_some demand (sym free ∙ stands) })
-    (record { program = refl; tile = refl; steps = omega arith }) refl refl)
+    (record { program = refl; tile = refl; registers = refl; steps = omega arith }) refl free refl)
 executed_law unit (Loads register sum) acted is free next e = tried_law unit Load sum 0 acted is (λ reads. ap takes_word next) e
 executed_law unit (Stores sum value) acted is free next e = tried_law unit Store sum value acted is (λ reads. absurd (false≢true reads)) e
 executed_law unit (Swaps register sum value) acted is free next e = tried_law unit Swap sum value acted is (λ reads. ap takes_word next) e

@@ -41,7 +41,6 @@ pub mod TimesSteps
 pub mod TimesEvents
 pub mod ProtocolWriters
 pub mod WholeSteps
-pub mod InOrderAlone
 pub mod DoneTimes
 pub mod InOrderCores
 pub mod InOrderEvents

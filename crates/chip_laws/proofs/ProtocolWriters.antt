@@ -18,7 +18,6 @@ use Rattle.snoop_core.proofs.ByOrder.{OwnsByOrder-opening_node}
 use Rattle.snoop_core.proofs.Opened.{lookup-empty}
 use Rattle.chip_laws.specs.Meetings.{UnitsFit}
 use Rattle.chip_laws.specs.Parts.{WritersHold}
-use Rattle.chip_laws.specs.ReadyUnits.{WorksWhileNoneWaits}
 use Rattle.chip_laws.proofs.Options.{none_some}
 use Rattle.chip_laws.proofs.EventSteps.{event_does}
 use Rattle.chip_laws.proofs.OrderFrames.{DeliversNext, known_of, holds_at}
@@ -29,16 +28,16 @@ tiles_of : (d : Doc) (s : ChipState) → ProtocolHolds d s → TilesAgree s
 tiles_of d s holds t unit at = (holds_at d s holds t unit at).holds.node.agrees.tile
 
 -- after every event
-pub writers_hold : (d : Doc) (b : Behaviour) (laws : KeepsLaws b) (s new : ChipState) (event : Event) → WorksWhileNoneWaits b laws → ProtocolHolds d s → UnitsFit b laws s → DeliversNext (chip_of d) s
+pub writers_hold : (d : Doc) (b : Behaviour) (laws : KeepsLaws b) (s new : ChipState) (event : Event) → ProtocolHolds d s → UnitsFit b laws s → DeliversNext (chip_of d) s
     → step b (chip_of d) s event ≡ Some new → WritersHold d new
-writers_hold d b laws s new event waits holds fit next e =
+writers_hold d b laws s new event holds fit next e =
     let does = event_does b (chip_of d) s new event e in
     let known = known_of d s holds in
     record {
       owns = owns_by_event b laws (chip_of d) s new event fit known next does;
       writers = writers_by_event b laws (chip_of d) s new event fit known next does;
-      timely = timely_by_event b laws (chip_of d) s new event waits fit known (tiles_of d s holds) next holds.timely does;
-      performers = performers_by_event d b laws s new event waits fit known holds next does;
+      timely = timely_by_event b laws (chip_of d) s new event fit known (tiles_of d s holds) next holds.timely does;
+      performers = performers_by_event d b laws s new event fit known holds next does;
     }
 
 -- ---- the opening

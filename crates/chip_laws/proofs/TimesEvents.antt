@@ -24,7 +24,6 @@ use Rattle.chip_model.specs.Ownership.{writer}
 use Rattle.chip_model.specs.Writers.{time_of_demand, latest_time, IsTimely}
 use Rattle.chip_model.specs.ChipInvariant.{ProtocolHolds}
 use Rattle.chip_laws.specs.EventSteps.{ChangesUnit, EventDoes}
-use Rattle.chip_laws.specs.ReadyUnits.{WorksWhileNoneWaits}
 use Rattle.chip_laws.proofs.Options.{none_some}
 use Rattle.chip_laws.specs.Meetings.{UnitsFit}
 use Rattle.chip_laws.proofs.UnitFrames.{each_unit}
@@ -80,8 +79,8 @@ goes_in_time ordered unit step acted goes is =
     }
 
 -- the core alone reads a buffered store where no demand stands
-alone_in_time : (ordered : List Request) (unit : UnitState) (acted : Acted) → unit.node.side.misses.demand ≡ None → WorksAlone unit acted → UnitInTime ordered unit acted
-alone_in_time ordered unit acted none alone =
+alone_in_time : (ordered : List Request) (unit : UnitState) (acted : Acted) → WorksAlone unit acted → UnitInTime ordered unit acted
+alone_in_time ordered unit acted alone =
     let same : latest_time acted.0.node ≡ latest_time unit.node = ap latest_time alone.node in
     record { later = omega arith; answer = by acted.1 alone.reads } where
       by : (answer : Option Access) → IfSome answer (λ a. (writes a.kind ≡ false) × (a.tile ≡ unit.node.tile) × (a.time ≡ unit.node.delivered) × IsOfCore unit acted.0 a)
@@ -89,14 +88,14 @@ alone_in_time ordered unit acted none alone =
       by None is a e = none_some a e
       by (Some one) is a e = subst (AccessInTime ordered unit.node.tile (latest_time acted.0.node)) (same_Some one a e) (record {
         tile_is = is.1;
-        time = let at : latest_time acted.0.node ≡ latest_time unit.node = ap latest_time alone.node in let free : latest_time unit.node ≡ unit.node.delivered = ap (λ (entry : Option Demand). time_of_demand entry unit.node.delivered) none in
+        time = let at : latest_time acted.0.node ≡ latest_time unit.node = ap latest_time alone.node in let free : latest_time unit.node ≡ unit.node.delivered = ap (λ (entry : Option Demand). time_of_demand entry unit.node.delivered) alone.no_demand in
             let t : one.time ≡ unit.node.delivered = is.2 in omega arith;
         writer = λ write. absurd (false≢true (sym is.0 ∙ write));
       })
 
-works_in_time : (ordered : List Request) (unit : UnitState) (acted : Acted) → unit.node.side.misses.demand ≡ None → KnownOf ordered unit.node → Works unit acted → UnitInTime ordered unit acted
-works_in_time ordered unit acted none known works = elim works [
-  | inl alone ↦ alone_in_time ordered unit acted none alone
+works_in_time : (ordered : List Request) (unit : UnitState) (acted : Acted) → KnownOf ordered unit.node → Works unit acted → UnitInTime ordered unit acted
+works_in_time ordered unit acted known works = elim works [
+  | inl alone ↦ alone_in_time ordered unit acted alone
   | inr tries ↦ goes_in_time ordered unit tries.left acted tries.goes_on (accessed_in_time ordered tries.access unit.node tries.left known tries.tried)
 ]
 
@@ -147,28 +146,28 @@ quiet_in_time ordered unit after same = record { later = omega arith; answer = �
 
 -- each access came in time, after every event
 pub timely_by_event : (b : Behaviour) (laws : KeepsLaws b) (chip : Chip) (s new : ChipState) (event : Event)
-    → WorksWhileNoneWaits b laws → UnitsFit b laws s → AllKnown s → TilesAgree s → DeliversNext chip s → IsTimely s → EventDoes b chip s new event → IsTimely new
-timely_by_event b laws chip s new Tick waits fit known tiles next timely does = grows_in_time s new timely (order_grows b chip s new Tick does) does.units does.accesses
-timely_by_event b laws chip s new (Core t) waits fit known tiles next timely does =
+    → UnitsFit b laws s → AllKnown s → TilesAgree s → DeliversNext chip s → IsTimely s → EventDoes b chip s new event → IsTimely new
+timely_by_event b laws chip s new Tick fit known tiles next timely does = grows_in_time s new timely (order_grows b chip s new Tick does) does.units does.accesses
+timely_by_event b laws chip s new (Core t) fit known tiles next timely does =
     changes_in_time s new t does.unit (b.stepped does.unit).0 (b.stepped does.unit).1 tiles timely (ap (λ n. n.ordered) does.network) does.changes does.accesses
-    (works_in_time s.network.ordered does.unit (b.stepped does.unit) (waits does.unit (fit t does.unit does.changes.at) does.ready) (known t does.unit does.changes.at) (laws.stepped does.unit (fit t does.unit does.changes.at) does.ready).1)
-timely_by_event b laws chip s new (Inject t) waits fit known tiles next timely does =
+    (works_in_time s.network.ordered does.unit (b.stepped does.unit) (known t does.unit does.changes.at) (laws.stepped does.unit (fit t does.unit does.changes.at) does.ready).1)
+timely_by_event b laws chip s new (Inject t) fit known tiles next timely does =
     changes_in_time s new t does.unit _ None tiles timely (injected_order chip s.network new.network t does.kind does.line does.network) does.changes does.accesses
     (quiet_in_time s.network.ordered does.unit (record does.unit { node = after_request_sent does.unit.node }) (request_sent_time does.unit.node))
-timely_by_event b laws chip s new (Post t) waits fit known tiles next timely does = grows_in_time s new timely (order_grows b chip s new (Post t) does) does.units does.accesses
-timely_by_event b laws chip s new (Take t) waits fit known tiles next timely does = grows_in_time s new timely (order_grows b chip s new (Take t) does) does.units does.accesses
-timely_by_event b laws chip s new (Eject t) waits fit known tiles next timely does =
+timely_by_event b laws chip s new (Post t) fit known tiles next timely does = grows_in_time s new timely (order_grows b chip s new (Post t) does) does.units does.accesses
+timely_by_event b laws chip s new (Take t) fit known tiles next timely does = grows_in_time s new timely (order_grows b chip s new (Take t) does) does.units does.accesses
+timely_by_event b laws chip s new (Eject t) fit known tiles next timely does =
     let law = laws.delivered does.request does.unit (fit t does.unit does.changes.at) in
     changes_in_time s new t does.unit (b.delivered does.request does.unit).0 (b.delivered does.request does.unit).1 tiles timely
     (delivered_order chip s.network new.network t does.request does.network) does.changes does.accesses
     (goes_in_time s.network.ordered does.unit _ (b.delivered does.request does.unit) law.1.goes_on
     (delivered_in_time s.network.ordered does.request does.unit.node (known t does.unit does.changes.at) (next t does.unit does.request new.network does.changes.at does.network)))
-timely_by_event b laws chip s new (Send t) waits fit known tiles next timely does =
+timely_by_event b laws chip s new (Send t) fit known tiles next timely does =
     changes_in_time s new t does.unit _ None tiles timely (ap (λ n. n.ordered) does.network) does.changes does.accesses
     (quiet_in_time s.network.ordered does.unit (record does.unit { node = after_message_sent does.unit.node }) (message_sent_time does.unit.node))
-timely_by_event b laws chip s new (Hop r port slot out) waits fit known tiles next timely does = grows_in_time s new timely (order_grows b chip s new (Hop r port slot out) does) does.units does.accesses
-timely_by_event b laws chip s new (DataHop r port slot) waits fit known tiles next timely does = grows_in_time s new timely (order_grows b chip s new (DataHop r port slot) does) does.units does.accesses
-timely_by_event b laws chip s new (DataEject r port slot) waits fit known tiles next timely does =
+timely_by_event b laws chip s new (Hop r port slot out) fit known tiles next timely does = grows_in_time s new timely (order_grows b chip s new (Hop r port slot out) does) does.units does.accesses
+timely_by_event b laws chip s new (DataHop r port slot) fit known tiles next timely does = grows_in_time s new timely (order_grows b chip s new (DataHop r port slot) does) does.units does.accesses
+timely_by_event b laws chip s new (DataEject r port slot) fit known tiles next timely does =
     let law = laws.received does.msg does.unit (fit r does.unit does.changes.at) in
     changes_in_time s new r does.unit (b.received does.msg does.unit).0 (b.received does.msg does.unit).1 tiles timely
     (ap (λ n. n.ordered) does.network) does.changes does.accesses
@@ -195,22 +194,22 @@ same_performers d s new holds accesses place access stands = holds.performers pl
 
 -- each access is of a tile of the chip, after every event
 pub performers_by_event : (d : Doc) (b : Behaviour) (laws : KeepsLaws b) (s new : ChipState) (event : Event)
-    → WorksWhileNoneWaits b laws → UnitsFit b laws s → AllKnown s → ProtocolHolds d s → DeliversNext (chip_of d) s → EventDoes b (chip_of d) s new event → Performers (chip_of d) new
-performers_by_event d b laws s new Tick waits fit known holds next does = same_performers d s new holds does.accesses
-performers_by_event d b laws s new (Core t) waits fit known holds next does =
+    → UnitsFit b laws s → AllKnown s → ProtocolHolds d s → DeliversNext (chip_of d) s → EventDoes b (chip_of d) s new event → Performers (chip_of d) new
+performers_by_event d b laws s new Tick fit known holds next does = same_performers d s new holds does.accesses
+performers_by_event d b laws s new (Core t) fit known holds next does =
     answer_performer d s new t does.unit (b.stepped does.unit).0 (b.stepped does.unit).1 holds does.changes does.accesses
-    (works_in_time s.network.ordered does.unit (b.stepped does.unit) (waits does.unit (fit t does.unit does.changes.at) does.ready) (known t does.unit does.changes.at) (laws.stepped does.unit (fit t does.unit does.changes.at) does.ready).1)
-performers_by_event d b laws s new (Inject t) waits fit known holds next does = same_performers d s new holds does.accesses
-performers_by_event d b laws s new (Post t) waits fit known holds next does = same_performers d s new holds does.accesses
-performers_by_event d b laws s new (Take t) waits fit known holds next does = same_performers d s new holds does.accesses
-performers_by_event d b laws s new (Eject t) waits fit known holds next does =
+    (works_in_time s.network.ordered does.unit (b.stepped does.unit) (known t does.unit does.changes.at) (laws.stepped does.unit (fit t does.unit does.changes.at) does.ready).1)
+performers_by_event d b laws s new (Inject t) fit known holds next does = same_performers d s new holds does.accesses
+performers_by_event d b laws s new (Post t) fit known holds next does = same_performers d s new holds does.accesses
+performers_by_event d b laws s new (Take t) fit known holds next does = same_performers d s new holds does.accesses
+performers_by_event d b laws s new (Eject t) fit known holds next does =
     answer_performer d s new t does.unit (b.delivered does.request does.unit).0 (b.delivered does.request does.unit).1 holds does.changes does.accesses
     (goes_in_time s.network.ordered does.unit _ (b.delivered does.request does.unit) (laws.delivered does.request does.unit (fit t does.unit does.changes.at)).1.goes_on
     (delivered_in_time s.network.ordered does.request does.unit.node (known t does.unit does.changes.at) (next t does.unit does.request new.network does.changes.at does.network)))
-performers_by_event d b laws s new (Send t) waits fit known holds next does = same_performers d s new holds does.accesses
-performers_by_event d b laws s new (Hop r port slot out) waits fit known holds next does = same_performers d s new holds does.accesses
-performers_by_event d b laws s new (DataHop r port slot) waits fit known holds next does = same_performers d s new holds does.accesses
-performers_by_event d b laws s new (DataEject r port slot) waits fit known holds next does =
+performers_by_event d b laws s new (Send t) fit known holds next does = same_performers d s new holds does.accesses
+performers_by_event d b laws s new (Hop r port slot out) fit known holds next does = same_performers d s new holds does.accesses
+performers_by_event d b laws s new (DataHop r port slot) fit known holds next does = same_performers d s new holds does.accesses
+performers_by_event d b laws s new (DataEject r port slot) fit known holds next does =
     answer_performer d s new r does.unit (b.received does.msg does.unit).0 (b.received does.msg does.unit).1 holds does.changes does.accesses
     (goes_in_time s.network.ordered does.unit _ (b.received does.msg does.unit) (laws.received does.msg does.unit (fit r does.unit does.changes.at)).1.goes_on
     (arrived_in_time s.network.ordered does.msg does.unit.node (known r does.unit does.changes.at)))

@@ -2,6 +2,5 @@ pub mod DocFits
 pub mod EventSteps
 pub mod InOrderUnits
 pub mod Meetings
-pub mod ReadyUnits
 pub mod Parts
 pub mod WaitingAccesses

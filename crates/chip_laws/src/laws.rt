@@ -12,13 +12,11 @@ ghost use Rattle.chip_model.specs.ChipInvariant.{CoresInOrder, ProtocolHolds};
 ghost use Rattle.snoop_core.specs.Requests.{OwnRequestFits};
 ghost use Rattle.chip_laws.specs.DocFits.{DocFits};
 ghost use Rattle.chip_laws.specs.Meetings.{ArrivalsFit, DeliveriesFit, NodesHold, UnitsFit, UnitsKeepShape};
-ghost use Rattle.chip_laws.specs.ReadyUnits.{WorksWhileNoneWaits};
 ghost use Rattle.chip_laws.specs.Parts.{WritersHold, GetsAreSupplied};
 
 /// The laws that a kind of core keeps. At run time it does nothing.
 pub fn behaviour_laws()
-    ensures in_order { KeepsLaws in_order }
-    ensures waits { (laws : KeepsLaws in_order) → WorksWhileNoneWaits in_order laws }
+    ensures { KeepsLaws in_order }
 {}
 
 /// The units of a chip, whatever its cores are: what holds of each before any event, and after every event. At run time
@@ -29,8 +27,10 @@ pub fn unit_laws()
     ensures kept { (b : Behaviour) (laws : KeepsLaws b) (chip : Chip) (s new : ChipState) (event : Event) → UnitsFit b laws s
         → step b chip s event ≡ Some new → UnitsFit b laws new }
 
-    // At the opening each runs its tile's program, on a core of eight registers.
+    // Each runs its tile's program, on a core of eight registers.
     ensures shaped { (d : Doc) → UnitsKeepShape d (opening d) }
+    ensures stepped { (b : Behaviour) (laws : KeepsLaws b) (d : Doc) (s new : ChipState) (event : Event) → UnitsFit b laws s
+        → UnitsKeepShape d s → step b (chip_of d) s event ≡ Some new → UnitsKeepShape d new }
 {}
 
 /// The nodes of a chip, each by itself and with its interface: its shape, what it has outstanding, who waits for its
@@ -62,7 +62,7 @@ pub fn order_laws()
     // Ownership, writers, and that accesses are made in time.
     ensures writers_opened { (d : Doc) → WritersHold d (opening d) }
     ensures writers { (b : Behaviour) (laws : KeepsLaws b) (d : Doc) (s new : ChipState) (event : Event)
-        → WorksWhileNoneWaits b laws → DocFits d → ProtocolHolds d s → UnitsFit b laws s
+        → DocFits d → ProtocolHolds d s → UnitsFit b laws s
         → step b (chip_of d) s event ≡ Some new → WritersHold d new }
 
     // Each get is answered from exactly one place.

@@ -7,7 +7,7 @@ use Rattle.chip_laws.proofs.laws.order_laws.Goals as goal
 pub returns : goal.returns
 returns c = record {
   writers_opened = writers_open;
-  writers = λ b laws d s new event waits fits holds fit e. writers_hold d b laws s new event waits holds fit (delivers_next d s holds (deliveries_fit d s fits holds)) e;
+  writers = λ b laws d s new event fits holds fit e. writers_hold d b laws s new event holds fit (delivers_next d s holds (deliveries_fit d s fits holds)) e;
   supplied_opened = supplied_opening;
   supplied = λ b laws d s new event fits holds fit e. supplied_after c.route_laws.ensures.nearer b laws d s new event fits holds fit (deliveries_fit d s fits holds) e;
 }

@@ -1,5 +1,5 @@
 use Rattle.chip_laws.proofs.Opening.{fit_opened, shapes_opened}
-use Rattle.chip_laws.proofs.UnitFrames.{units_fit}
+use Rattle.chip_laws.proofs.UnitFrames.{units_fit, shapes_kept}
 use Rattle.chip_laws.proofs.laws.unit_laws.Goals as goal
 
 pub returns-clause-opened : goal.returns-clause-opened
@@ -10,3 +10,6 @@ returns-clause-kept c = units_fit
 
 pub returns-clause-shaped : goal.returns-clause-shaped
 returns-clause-shaped c = shapes_opened
+
+pub returns-clause-stepped : goal.returns-clause-stepped
+returns-clause-stepped c = shapes_kept
