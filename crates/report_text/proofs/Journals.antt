@@ -1,8 +1,8 @@
 -- What packed words record.
-use Rattle.std.proofs.Common.{◌≡◌, ℕ, ◌+◌, ◌≤◌, List, [], ◌∷◌, ◌++◌, All, length, refl, sym, ap, subst, ◌∙◌, arith, Some, replicate}
+use Rattle.std.proofs.Common.{◌≡◌, ℕ, ◌+◌, ◌≤◌, List, [], ◌∷◌, ◌++◌, All, length, refl, sym, ap, subst, ◌∙◌, arith, Some, replicate, drop, get_or, zero, suc, ◌<◌}
 use Rattle.std.specs.List.{flat_map}
 use Rattle.std.proofs.lemmas.Grind.{flat_map-append}
-use Rattle.std.proofs.lemmas.List.{append-nil, length-append, length-replicate}
+use Rattle.std.proofs.lemmas.List.{append-nil, length-append, length-replicate, drop_more}
 use Rattle.report_text.specs.declared.entry.Entry.{Entry}
 use Rattle.report_text.specs.declared.event.Event.{Event}
 use Rattle.report_text.specs.declared.event.Event.TheVariants.{Core}
@@ -37,4 +37,26 @@ words_record [] all = omega arith
 words_record (word ∷ words) all =
     let rest : length (events_of (word ∷ words)) ≡ length (recorded_by (entry_near word)) + length (events_of words) =
     length-append (recorded_by (entry_near word)) (events_of words) in
-    omega (arith, rest, word_records word all.0, words_record words all.1)
+    omega (arith, rest, word_records word (all 0 0 (omega arith)), words_record words (λ k d below. all (suc k) d (omega (arith, below))))
+
+-- of what an entry records, the next one after so many is an event of the core, or in the end its own
+pub next_of_core : (entry : Entry) (k : ℕ) → k < entry.cores → drop k (recorded entry) ≡ Core entry.by ∷ drop (k + 1) (recorded entry)
+next_of_core entry k below = next entry.cores k below where
+  next : (n k : ℕ) → k < n → drop k (replicate n (Core entry.by) ++ entry.event ∷ []) ≡ Core entry.by ∷ drop (k + 1) (replicate n (Core entry.by) ++ entry.event ∷ [])
+  next zero k below = absurd (omega (arith, below))
+  next (suc n) zero below = refl
+  next (suc n) (suc k) below = let same : suc k + 1 ≡ suc (k + 1) = omega arith in next n k (omega (arith, below)) ∙ ap (λ m. Core entry.by ∷ drop m (replicate (suc n) (Core entry.by) ++ entry.event ∷ [])) (sym same)
+
+pub own_last : (entry : Entry) → drop entry.cores (recorded entry) ≡ entry.event ∷ []
+own_last entry = last entry.cores where
+  last : (n : ℕ) → drop n (replicate n (Core entry.by) ++ entry.event ∷ []) ≡ entry.event ∷ []
+  last zero = refl
+  last (suc n) = last n
+
+-- the events of the words from here on begin with those of the next word
+pub events_of-drop : (words : List ℕ) (i : ℕ) → i < length words → events_of (drop i words) ≡ recorded_by (entry_near (get_or words i 0)) ++ events_of (drop (i + 1) words)
+events_of-drop words i below = ap events_of (drop_more words i 0 below)
+
+-- what the word of a valid entry records
+pub records : (word : ℕ) (entry : Entry) → IsValid entry × (packed entry ≡ word) → recorded_by (entry_near word) ≡ recorded entry
+records word entry is = ap (λ (w : ℕ). recorded_by (entry_near w)) (sym is.1) ∙ recorded-packed entry is.0

@@ -4,7 +4,9 @@ ghost use Rattle.report_text.specs.Report.{IsTabular};
 
 use mesh_gen::{Items, Kind, Port, Request};
 use outside_io::{MemSink, WriteFault};
-use report_text::{Access, AccessKind, Event, Finish, Report, read_events, write_report};
+use report_text::{
+    Access, AccessKind, Entry, Event, Finish, Journal, Report, entry_laws, read_events, write_report,
+};
 use std::alloc::{AllocError, Global};
 use std::test::Fail;
 
@@ -31,6 +33,24 @@ const RUN_TEXT: &str =
     "requests 1\nq 0 0 0 GetM 0\nseen 1\ns 0 1 3\naccesses 2\na 0 1 st 2 7 1\na 0 2 ld 2 7 1\n\
 memory 1\nm 0 0 0 7 0\nwindows 1\nhops 0\njournal 11\ne core 0\ne core 0\ne inject 0\ne post 0\ne tick\n\
 e take 0\ne eject 0\ne send 0\ne dataeject 0 l 0\ne core 0\ne core 0\nended finished\n";
+
+// A journal of these events, each an entry of its own.
+fn journal_of(alloc: Global, events: &[Event]) -> Result<Journal, AllocError> {
+    entry_laws();
+    let mut words = Vec::new(alloc);
+    for event in events {
+        let entry = Entry {
+            by: 0,
+            cores: 0,
+            event: *event,
+        };
+        if entry.is_valid() {
+            words.push(entry.pack())?;
+        }
+    }
+    let count = words.len() as u64;
+    Ok(Journal::new(words, count))
+}
 
 fn run_report(alloc: Global) -> Result<Report, AllocError>
     ensures { IfOk result IsTabular }
@@ -61,7 +81,7 @@ fn run_report(alloc: Global) -> Result<Report, AllocError>
         steps: Items::new(Vec::from_slice(alloc, &[3])?),
         accesses: Items::new(Vec::from_slice(alloc, &[store, load])?),
         memory: Items::new(Vec::from_slice(alloc, &[0, 0, 7, 0])?),
-        journal: Items::new(Vec::from_slice(alloc, &RUN_EVENTS)?),
+        journal: journal_of(alloc, &RUN_EVENTS)?,
         windows: 1,
         hops: 0,
         ended: Finish::Finished,

@@ -61,7 +61,7 @@ returns-in_err-write_journal-clause-err g c =
     let accesses = Writes-lines _ _ _ lines (access_part r.accesses) (joined (memory_part r.memory ∷ count_part r.windows r.hops ∷ journal_part r.journal ∷ finish_part r.ended ∷ [])) tiles (rw c.as_slice-4.ensures at c.in_ok-write_accesses.ensures.ok) in
     let memory = Writes-lines _ _ _ lines (memory_part r.memory) (joined (count_part r.windows r.hops ∷ journal_part r.journal ∷ finish_part r.ended ∷ [])) accesses (rw c.as_slice-5.ensures at c.in_ok-write_memory.ensures.ok) in
     let counts = Writes-lines _ _ _ lines (count_part r.windows r.hops) (joined (journal_part r.journal ∷ finish_part r.ended ∷ [])) memory c.in_ok-write_counts.ensures.ok in
-    on_error c.from_residual-in_err-write_journal.result _ (Writes-cut_lines _ _ _ lines (journal_part r.journal) (joined (finish_part r.ended ∷ [])) counts (rw c.as_slice-6.ensures at c.in_err-write_journal.ensures.err))
+    on_error c.from_residual-in_err-write_journal.result _ (Writes-cut_lines _ _ _ lines (journal_part r.journal) (joined (finish_part r.ended ∷ [])) counts c.in_err-write_journal.ensures.err)
 
 pub returns-clause-ok : goal.returns-clause-ok
 returns-clause-ok g c =
@@ -73,7 +73,7 @@ returns-clause-ok g c =
     let accesses = Writes-lines _ _ _ lines (access_part r.accesses) (joined (memory_part r.memory ∷ count_part r.windows r.hops ∷ journal_part r.journal ∷ finish_part r.ended ∷ [])) tiles (rw c.as_slice-4.ensures at c.in_ok-write_accesses.ensures.ok) in
     let memory = Writes-lines _ _ _ lines (memory_part r.memory) (joined (count_part r.windows r.hops ∷ journal_part r.journal ∷ finish_part r.ended ∷ [])) accesses (rw c.as_slice-5.ensures at c.in_ok-write_memory.ensures.ok) in
     let counts = Writes-lines _ _ _ lines (count_part r.windows r.hops) (joined (journal_part r.journal ∷ finish_part r.ended ∷ [])) memory c.in_ok-write_counts.ensures.ok in
-    let journal = Writes-lines _ _ _ lines (journal_part r.journal) (joined (finish_part r.ended ∷ [])) counts (rw c.as_slice-6.ensures at c.in_ok-write_journal.ensures.ok) in
+    let journal = Writes-lines _ _ _ lines (journal_part r.journal) (joined (finish_part r.ended ∷ [])) counts c.in_ok-write_journal.ensures.ok in
     on_ok_more c.write.result _ _ (λ appended. Writes-all _ _ lines (Writes-line _ _ _ lines (finish_part r.ended) (joined_words (finish_words r.ended)) [] _ c.finish_line.ensures.text refl journal appended)) c.write.ensures.ok
 
 pub returns-clause-err : goal.returns-clause-err
@@ -86,5 +86,5 @@ returns-clause-err g c =
     let accesses = Writes-lines _ _ _ lines (access_part r.accesses) (joined (memory_part r.memory ∷ count_part r.windows r.hops ∷ journal_part r.journal ∷ finish_part r.ended ∷ [])) tiles (rw c.as_slice-4.ensures at c.in_ok-write_accesses.ensures.ok) in
     let memory = Writes-lines _ _ _ lines (memory_part r.memory) (joined (count_part r.windows r.hops ∷ journal_part r.journal ∷ finish_part r.ended ∷ [])) accesses (rw c.as_slice-5.ensures at c.in_ok-write_memory.ensures.ok) in
     let counts = Writes-lines _ _ _ lines (count_part r.windows r.hops) (joined (journal_part r.journal ∷ finish_part r.ended ∷ [])) memory c.in_ok-write_counts.ensures.ok in
-    let journal = Writes-lines _ _ _ lines (journal_part r.journal) (joined (finish_part r.ended ∷ [])) counts (rw c.as_slice-6.ensures at c.in_ok-write_journal.ensures.ok) in
+    let journal = Writes-lines _ _ _ lines (journal_part r.journal) (joined (finish_part r.ended ∷ [])) counts c.in_ok-write_journal.ensures.ok in
     on_error_more c.write.result _ _ (λ cut. Writes-cut _ _ _ lines (finish_part r.ended) (joined_words (finish_words r.ended)) [] _ c.finish_line.ensures.text refl journal cut) c.write.ensures.err
