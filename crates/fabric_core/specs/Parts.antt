@@ -16,10 +16,10 @@ pub record LogState : Type 0 where
   pub room : ℕ
 
 -- the words are those of entries, so many events are recorded, and there is room for them
-pub record LogFits (log : LogState) (events : ℕ) : Type 0 where
+pub record LogFits (log : LogState) (count : ℕ) : Type 0 where
   pub words : AreEntryWords log.words
-  pub events : events ≡ length (events_of log.words)
-  pub within : events ≤ log.room
+  pub events : count ≡ length (events_of log.words)
+  pub within : count ≤ log.room
   pub few : log.room < 2 ^ 30
 
 -- both networks, the journal, the accesses and the hops

@@ -54,7 +54,7 @@ impl Fabric {
     /// The fabric of a mesh before any event, with room for so many events. No other call takes memory.
     pub fn open(alloc: Global, mesh: &Mesh, room: u64) -> Result<Box<Fabric>, NoMemory>
         requires { room < 2 ^ 30 }
-        ensures { IfOk result (λ fabric. fabric ≡ opening_fabric (chip_of_mesh mesh.now) room) }
+        ensures { IfOk result (λ fabric. fabric.value ≡ opening_fabric (chip_of_mesh mesh.now) room) }
     {
         let most_ordered = room + u64::from(mesh.tiles());
         let fabric = Fabric {

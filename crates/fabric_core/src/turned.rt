@@ -3,7 +3,8 @@ ghost use Rattle.report_text.specs.Journals.{tile_named};
 use crate::Fabric;
 use turn_table::Turned;
 
-// The turns of a fabric are the entries of its journal, and each names the tile that made it.
+// The turns of a fabric are the entries of its journal, and each names the tile that made it. A value that is changed in
+// turns may be moved to another thread, and so a fabric may.
 impl Turned for Fabric {
     ghost entries = { λ fabric. fabric.entries };
 
@@ -12,12 +13,4 @@ impl Turned for Fabric {
     fn turns(&self) -> u64 {
         self.log.words()
     }
-}
-
-// A fabric may be moved to another thread.
-fn is_send<T: Send>() {}
-
-/// At run time it does nothing.
-fn fabric_is_send() {
-    is_send::<Fabric>();
 }

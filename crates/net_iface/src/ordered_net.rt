@@ -385,8 +385,8 @@ impl OrderedNet {
         }
     }
 
-    // How many windows have closed: each has ordered a request at least.
-    fn closed_count(&self) -> u64
+    /// How many windows have closed: each has ordered a request at least.
+    pub fn closed_count(&self) -> u64
         ensures count { result ≡ length self.now.network.windows.closed }
         ensures few { result ≤ length self.now.network.ordered }
         ensures fit { WindowsFit self.now.chip self.now.network.windows }
