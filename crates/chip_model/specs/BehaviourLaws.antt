@@ -24,11 +24,13 @@ pub record IsOfNext (old new : UnitState) (a : Access) : Type 0 where
   pub buffered : new.buffered ≡ old.buffered
   pub writes_last : writes a.kind ≡ true → old.buffered ≡ []
 
+-- an access is the oldest store of the buffer, which it leaves
 pub record IsOldestStore (old new : UnitState) (a : Access) : Type 0 where
   pub store : BufferedStore
   pub buffered : old.buffered ≡ store ∷ new.buffered
   pub number : a.number ≡ store.number
 
+-- an access of a core is its next one, or its oldest buffered store
 abbrev pub IsOfCore : UnitState → UnitState → Access → Type 0
 IsOfCore old new a = IsOfNext old new a ⊎ IsOldestStore old new a
 

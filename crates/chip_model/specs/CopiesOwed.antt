@@ -42,6 +42,7 @@ pub record IsOnTree (g : Grid) (router : ℕ) (copy : NetCopy) : Type 0 where
   pub outs : (out : Port) → owes copy out ≡ true → leaves_by g copy.request.source router out ≡ true
   pub some : (out : Port) × (owes copy out ≡ true)
 
+-- each copy stands on its tree, and no tile is owed a request twice
 pub record CopiesFit (g : Grid) (net : Network NetCopy) : Type 0 where
   pub stand : (router port slot : ℕ) (copy : NetCopy) → at net router port slot ≡ Some copy → IsOnTree g router copy
   pub once : (name : Name) (tile : ℕ) → owing g net name tile ≤ 1

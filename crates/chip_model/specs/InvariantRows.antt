@@ -163,11 +163,13 @@ beside_along d None events = false
 beside_along d (Some s) [] = list_any has_both s.units
 beside_along d (Some s) (event ∷ events) = list_any has_both s.units || beside_along d (after in_order (chip_of d) s event) events
 
+-- they hold throughout a dirty eviction, in which a demand stands beside a write-back
 pub dirty_eviction_holds : (let journal = (swept_from_first dirty_eviction 1000000 40).journal in
     (along dirty_eviction (Some (opening dirty_eviction)) journal ≡ true) × (beside_along dirty_eviction (Some (opening dirty_eviction)) journal ≡ true))
 unfolding digits x_of y_of has without_port has_tile tree_outs slots at put weigh loaded set_number after_post after_tick after_take after_entry after_hop local_place after_serve after_send next_channel after_data_hop after_data_eject after_inject after_request_post after_network_tick after_vector_take expected_at after_copy_hop after_delivery lookup has_room installed without_line without_shared lowest_for wanted marked_sent holding after_snoop after_data answered back_arrived node_after_request node_after_message after_request_sent after_message_sent node_after_access core_event in_order finished unit_at step after run owner_after owner owns witness line_value chip_slots sweeps
 dirty_eviction_holds = (refl, refl)
 
+-- they hold throughout store buffering
 pub store_buffering_holds : along store_buffering (Some (opening store_buffering)) (swept_from_first store_buffering 1000000 40).journal ≡ true
 unfolding digits x_of y_of has without_port has_tile tree_outs slots at put weigh loaded set_number after_post after_tick after_take after_entry after_hop local_place after_serve after_send next_channel after_data_hop after_data_eject after_inject after_request_post after_network_tick after_vector_take expected_at after_copy_hop after_delivery lookup has_room installed without_line without_shared lowest_for wanted marked_sent holding after_snoop after_data answered back_arrived node_after_request node_after_message after_request_sent after_message_sent node_after_access core_event in_order finished unit_at step after run owner_after owner owns witness line_value chip_slots sweeps
 store_buffering_holds = refl
@@ -189,6 +191,7 @@ contention = record {
   posts = [];
 }
 
+-- they hold throughout the contention for a way, to its end
 pub contention_holds : (let s = swept_from_first contention 1000000 80 in
     (along contention (Some (opening contention)) s.journal ≡ true)
     × (beside_along contention (Some (opening contention)) s.journal ≡ true)
@@ -203,6 +206,7 @@ counting_beside = record contention {
   programs = (Li 1 1 ∷ Fadd 1 0 0 ∷ Li 2 2 ∷ Fadd 2 0 4 ∷ Li 3 3 ∷ Fadd 3 0 0 ∷ Swap 3 0 5 ∷ []) ∷ (Li 1 10 ∷ Fadd 1 0 0 ∷ Li 2 20 ∷ Fadd 2 0 4 ∷ Swap 2 0 1 ∷ []) ∷ [];
 }
 
+-- they hold throughout the counts beside write-backs, to their end
 pub counting_beside_holds : (let s = swept_from_first counting_beside 1000000 80 in
     (along counting_beside (Some (opening counting_beside)) s.journal ≡ true)
     × (beside_along counting_beside (Some (opening counting_beside)) s.journal ≡ true)
@@ -210,6 +214,7 @@ pub counting_beside_holds : (let s = swept_from_first counting_beside 1000000 80
 unfolding digits x_of y_of has without_port has_tile tree_outs slots at put weigh loaded set_number after_post after_tick after_take after_entry after_hop local_place after_serve after_send next_channel after_data_hop after_data_eject after_inject after_request_post after_network_tick after_vector_take expected_at after_copy_hop after_delivery lookup has_room installed without_line without_shared lowest_for wanted marked_sent holding after_snoop after_data answered back_arrived node_after_request node_after_message after_request_sent after_message_sent node_after_access core_event in_order finished unit_at step after run owner_after owner owns witness line_value chip_slots sweeps
 counting_beside_holds = (refl, refl, refl)
 
+-- no count is lost: memory ends with both sums
 pub counting_beside_counts : (let r = swept_report counting_beside 1000000 80 in
     slice_index_or r.memory 0 0 ∷ slice_index_or r.memory 4 0 ∷ [] ≡ 17 ∷ 31 ∷ [])
 unfolding digits x_of y_of has without_port has_tile tree_outs slots at put weigh loaded set_number after_post after_tick after_take after_entry after_hop local_place after_serve after_send next_channel after_data_hop after_data_eject after_inject after_request_post after_network_tick after_vector_take expected_at after_copy_hop after_delivery lookup has_room installed without_line without_shared lowest_for wanted marked_sent holding after_snoop after_data answered back_arrived node_after_request node_after_message after_request_sent after_message_sent node_after_access core_event in_order finished unit_at step after run owner_after owner owns witness line_value chip_slots sweeps report_of

@@ -1,4 +1,4 @@
-pub mod Partial
+pub use Rattle.mesh_gen.specs.Partial
 pub mod Chip
 pub mod Windows
 pub mod Copies

@@ -32,6 +32,7 @@ four_tiles controller = record {
   controllers = controller ∷ [];
 }
 
+-- two tiles with four sets of one way each
 abbrev pub two_tiles : Chip
 two_tiles = record {
   grid = record { cols = 2; rows = 1 };
@@ -44,18 +45,23 @@ two_tiles = record {
   controllers = 0 ∷ [];
 }
 
+-- a request for a line
 abbrev pub request_for_line : ℕ → ℕ → ℕ → Kind → Request
 request_for_line line source number kind = record { source = source; number = number; kind = kind; line = line }
 
+-- a request for line 0
 abbrev pub request : ℕ → ℕ → Kind → Request
 request source number kind = request_for_line 0 source number kind
 
+-- an access that waits to be performed
 abbrev pub access : AccessKind → ℕ → ℕ → Pending
 access kind address value = record { kind = kind; address = address; value = value }
 
+-- a message with the words of line 0
 abbrev pub words_for_line : ℕ → List ℕ → Msg
 words_for_line tile words = data_to tile 0 words
 
+-- the node after its request was sent, where an access was started
 abbrev pub asked_with : Node → Option Performed → Node
 asked_with node None = node
 asked_with node (Some performed) = after_request_sent performed.0
@@ -69,6 +75,7 @@ abbrev pub delivered_all : List Request → Node → Node
 delivered_all [] node = node
 delivered_all (q ∷ rest) node = delivered_all rest (node_after_request q node).0
 
+-- an access that was performed, and read nothing
 abbrev pub done : AccessKind → ℕ → ℕ → ℕ → Option Done
 done kind address value time = Some (record { kind = kind; address = address; value = value; time = time; old = 0 })
 
@@ -76,6 +83,7 @@ done kind address value time = Some (record { kind = kind; address = address; va
 abbrev pub held_copy : Node → ℕ → Option Held
 held_copy node line = lookup node.chip node.side.cache line
 
+-- a copy of line 0 in a cache
 abbrev pub copy : State → List ℕ → Option Held
 copy state words = Some (record { line = 0; state = state; words = words })
 
@@ -83,12 +91,15 @@ copy state words = Some (record { line = 0; state = state; words = words })
 abbrev pub storing : Node
 storing = asked Store 0 5 (opening_node (four_tiles 3) 0 (replicate 64 0))
 
+-- two loads come after the store
 abbrev pub storing_and_read : Node
 storing_and_read = delivered_all (request 0 0 GetM ∷ request 1 0 GetS ∷ request 2 0 GetS ∷ []) storing
 
+-- and then another store
 abbrev pub storing_and_written : Node
 storing_and_written = (node_after_request (request 3 0 GetM) storing_and_read).0
 
+-- once the words come, the store is done, and all that wait are sent the line with it; the next writer takes the copy
 pub words_go_on_to_all_that_wait :
     (option_map {U = Option Done × Option (Kind × ℕ)} (λ (p : Performed). (p.1, wanted p.0.side.misses)) (node_after_access (access Store 0 5) (opening_node (four_tiles 3) 0 (replicate 64 0))) ≡ Some (None, Some (GetM, 0)))
     × ((node_after_request (request 3 0 GetM) storing_and_read).1 ≡ None)
@@ -106,12 +117,15 @@ words_go_on_to_all_that_wait = (refl, refl, (refl, refl, refl), (refl, refl))
 abbrev pub owning : Node
 owning = record (node_after_message (words_for_line 0 (1 ∷ 2 ∷ 3 ∷ 4 ∷ [])) storing_and_read).0 { out = [] }
 
+-- its second store asks for the line again
 abbrev pub upgrading : Node
 upgrading = asked Store 1 8 owning
 
+-- the other tile's store is ordered first
 abbrev pub overtaken : Node
 overtaken = (node_after_request (request 3 0 GetM) upgrading).0
 
+-- the owned copy goes to the other tile, and the upgrade waits for words; where it is ordered first, it needs none
 pub an_upgrade_waits_where_it_was_overtaken :
     (wanted upgrading.side.misses ≡ None)
     × (overtaken.out ≡ words_for_line 3 (5 ∷ 2 ∷ 3 ∷ 4 ∷ []) ∷ [])
@@ -129,9 +143,11 @@ an_upgrade_waits_where_it_was_overtaken = (refl, refl, refl, (refl, (refl, refl)
 abbrev pub waiting_load : Node
 waiting_load = asked Load 0 0 (opening_node two_tiles 1 (replicate 64 0))
 
+-- the other tile's store is ordered before the words are there
 abbrev pub invalidated : Node
 invalidated = delivered_all (request 1 0 GetS ∷ request 0 0 GetM ∷ []) waiting_load
 
+-- the load is done with the words that came, of which no copy is kept
 pub words_that_came_late_serve_once :
     (let after = node_after_message (words_for_line 1 (7 ∷ 0 ∷ 0 ∷ 0 ∷ [])) invalidated in
     (after.1 ≡ done Load 0 7 1)
@@ -155,12 +171,15 @@ words_that_came_early_wait = (refl, (refl, refl, refl))
 abbrev pub modified : Node
 modified = (node_after_message (words_for_line 0 (1 ∷ 2 ∷ 3 ∷ 4 ∷ [])) (delivered_all (request 0 0 GetM ∷ []) storing)).0
 
+-- a load of another line evicts it
 abbrev pub writing_back : Node
 writing_back = asked Load 4 0 modified
 
+-- the other tile's store is ordered before the write-back
 abbrev pub stale : Node
 stale = (node_after_request (request 2 0 GetM) writing_back).0
 
+-- the words go to the other tile, and none to memory
 pub a_stale_write_back_ends_without_a_word :
     (held_copy modified 0 ≡ copy M (5 ∷ 2 ∷ 3 ∷ 4 ∷ []))
     × (option_map (λ (p : Performed). wanted p.0.side.misses) (node_after_access (access Load 4 0) modified) ≡ Some (Some (PutM, 0)))
@@ -174,15 +193,19 @@ a_stale_write_back_ends_without_a_word = (refl, refl, refl, (refl, refl, refl))
 abbrev pub missing_beside : Node
 missing_beside = asked Load 4 0 writing_back
 
+-- the write-back is ordered while the miss waits
 abbrev pub written_back : Node
 written_back = (node_after_request (request 0 1 PutM) missing_beside).0
 
+-- the miss is ordered, and its words come
 abbrev pub read_beside : Performed
 read_beside = node_after_message (data_to 0 1 (6 ∷ 0 ∷ 0 ∷ 0 ∷ [])) (node_after_request (request_for_line 1 0 2 GetS) written_back).0
 
+-- the request that an access needs, where it was started
 abbrev pub wanted_after : Option Performed → Option (Option (Kind × ℕ))
 wanted_after tried = option_map (λ (p : Performed). wanted p.0.side.misses) tried
 
+-- the miss is sent before the write-back is ordered, and each ends by itself
 pub a_miss_goes_on_beside_a_write_back :
     (wanted_after (node_after_access (access Load 4 0) modified) ≡ Some (Some (PutM, 0)))
     × (node_after_access (access Load 0 0) writing_back ≡ None)
@@ -200,6 +223,7 @@ a_miss_goes_on_beside_a_write_back = (refl, refl, refl, refl, refl, refl, refl, 
 abbrev pub overtaken_beside : Node
 overtaken_beside = (node_after_request (request 2 0 GetM) missing_beside).0
 
+-- the write-back ends without a word to memory, and the miss still waits
 pub a_miss_goes_on_beside_a_stale_write_back :
     (overtaken_beside.out ≡ words_for_line 2 (5 ∷ 2 ∷ 3 ∷ 4 ∷ []) ∷ [])
     × (let after = node_after_request (request 0 1 PutM) overtaken_beside in
@@ -214,12 +238,15 @@ a_miss_goes_on_beside_a_stale_write_back = (refl, (refl, refl, refl, refl))
 abbrev pub owned_by_zero : Records
 owned_by_zero = Some (record { owner = Tile 0; words = replicate 4 0; fresh = false; waiters = [] }) ∷ []
 
+-- the record of line 0
 abbrev pub home_record_of : Records → Option LineRecord
 home_record_of records = slice_index_or records 0 None
 
+-- the words that are written back
 abbrev pub line_words : List ℕ
 line_words = 5 ∷ 2 ∷ 3 ∷ 4 ∷ []
 
+-- it answers no request before both: the write-back is ordered, and its words are there
 pub memory_supplies_once_it_owns_the_line_and_has_its_words :
     (let back = back_arrived 0 line_words owned_by_zero in
     (back.sends ≡ [])

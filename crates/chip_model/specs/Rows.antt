@@ -41,6 +41,7 @@ use Rattle.chip_model.specs.Reports.{report_of}
 abbrev pub swept_from_first : Doc → ℕ → ℕ → ChipState
 swept_from_first d budget count = sweeps in_order (chip_of d) budget (opening d) (replicate count 0)
 
+-- the report of what they leave
 abbrev pub swept_report : Doc → ℕ → ℕ → Report
 swept_report d budget count = report_of d (swept_from_first d budget count)
 
@@ -65,9 +66,11 @@ one_tile = record {
   posts = [];
 }
 
+-- its events, from its start to its end
 abbrev pub one_tile_events : List Event
 one_tile_events = Core 0 ∷ Core 0 ∷ Inject 0 ∷ Post 0 ∷ Tick ∷ Take 0 ∷ Eject 0 ∷ Send 0 ∷ DataEject 0 L 0 ∷ Core 0 ∷ Core 0 ∷ []
 
+-- its report
 abbrev pub one_tile_text : List ℕ
 one_tile_text = text_of_lines (
     codes "requests 1"
@@ -138,6 +141,7 @@ store_buffering = record {
   posts = [];
 }
 
+-- its report, without the events
 abbrev pub store_buffering_text : List ℕ
 store_buffering_text = text_of_lines (
     codes "requests 4"
@@ -177,6 +181,7 @@ dirty_eviction = record {
   posts = [];
 }
 
+-- its report, without the events
 abbrev pub dirty_eviction_text : List ℕ
 dirty_eviction_text = text_of_lines (
     codes "requests 3"
@@ -219,6 +224,7 @@ read_and_written = record one_tile {
   programs = (Li 1 3 ∷ Fadd 1 0 0 ∷ Swap 1 0 0 ∷ Halt ∷ []) ∷ [];
 }
 
+-- its report, without the events
 abbrev pub read_and_written_text : List ℕ
 read_and_written_text = text_of_lines (
     codes "requests 1"
@@ -242,6 +248,7 @@ counting = record false_sharing { programs = replicate 4 (Li 1 1 ∷ Fadd 1 0 0 
 abbrev pub counted : ℕ → Access
 counted t = record { tile = t; number = 1; kind = Add; address = 0; value = t + 1; time = t + 1; old = t }
 
+-- the run of the events prints this report, and so does the schedule: with a budget that serves, and with one event less
 pub one_tile_prints :
     (option_map (λ s. report_text (report_of one_tile s)) (run in_order (chip_of one_tile) (opening one_tile) one_tile_events) ≡ Some one_tile_text)
     × (report_text (swept_report one_tile 1000000 20) ≡ one_tile_text)
@@ -250,29 +257,34 @@ pub one_tile_prints :
 unfolding digits x_of y_of has without_port has_tile tree_outs slots at put loaded set_number after_post after_tick after_take after_entry after_hop local_place after_serve after_send next_channel after_data_hop after_data_eject after_inject after_request_post after_network_tick after_vector_take expected_at after_copy_hop after_delivery lookup has_room installed without_line without_shared lowest_for wanted marked_sent holding after_snoop after_data answered back_arrived node_after_request node_after_message after_request_sent after_message_sent node_after_access core_event in_order finished unit_at step after run owner_after owner witness report_of chip_slots sweeps
 one_tile_prints = (refl, refl, refl, refl)
 
--- the run of the schedule's events is the state that the schedule leaves
+-- not both loads find 0
 pub store_buffering_prints :
     Begins (swept_report store_buffering 1000000 40) store_buffering_text
 unfolding digits x_of y_of has without_port has_tile tree_outs slots at put loaded set_number after_post after_tick after_take after_entry after_hop local_place after_serve after_send next_channel after_data_hop after_data_eject after_inject after_request_post after_network_tick after_vector_take expected_at after_copy_hop after_delivery lookup has_room installed without_line without_shared lowest_for wanted marked_sent holding after_snoop after_data answered back_arrived node_after_request node_after_message after_request_sent after_message_sent node_after_access core_event in_order finished unit_at step after run owner_after owner witness report_of chip_slots sweeps
 store_buffering_prints = refl
 
+-- the line that was written is written back before the load's
 pub dirty_eviction_prints : Begins (swept_report dirty_eviction 1000000 40) dirty_eviction_text
 unfolding digits x_of y_of has without_port has_tile tree_outs slots at put loaded set_number after_post after_tick after_take after_entry after_hop local_place after_serve after_send next_channel after_data_hop after_data_eject after_inject after_request_post after_network_tick after_vector_take expected_at after_copy_hop after_delivery lookup has_room installed without_line without_shared lowest_for wanted marked_sent holding after_snoop after_data answered back_arrived node_after_request node_after_message after_request_sent after_message_sent node_after_access core_event in_order finished unit_at step after run owner_after owner witness report_of chip_slots sweeps
 dirty_eviction_prints = refl
 
+-- no word is lost
 pub false_sharing_ends : (let r = swept_report false_sharing 1000000 60 in
     (length r.requests ≡ 4) × (r.windows ≡ 1) × (r.hops ≡ 12) × (r.memory ≡ 10 ∷ 11 ∷ 12 ∷ 13 ∷ []))
 unfolding digits x_of y_of has without_port has_tile tree_outs slots at put loaded set_number after_post after_tick after_take after_entry after_hop local_place after_serve after_send next_channel after_data_hop after_data_eject after_inject after_request_post after_network_tick after_vector_take expected_at after_copy_hop after_delivery lookup has_room installed without_line without_shared lowest_for wanted marked_sent holding after_snoop after_data answered back_arrived node_after_request node_after_message after_request_sent after_message_sent node_after_access core_event in_order finished unit_at step after run owner_after owner witness report_of chip_slots sweeps
 false_sharing_ends = (refl, refl, refl, refl)
 
+-- the bound on its events
 pub one_tile_bound : bound one_tile ≡ 80
 one_tile_bound = refl
 
+-- each access reads what the one before it left
 pub read_and_written_prints :
     Begins (swept_report read_and_written 1000000 20) read_and_written_text
 unfolding digits x_of y_of has without_port has_tile tree_outs slots at put loaded set_number after_post after_tick after_take after_entry after_hop local_place after_serve after_send next_channel after_data_hop after_data_eject after_inject after_request_post after_network_tick after_vector_take expected_at after_copy_hop after_delivery lookup has_room installed without_line without_shared lowest_for wanted marked_sent holding after_snoop after_data answered back_arrived node_after_request node_after_message after_request_sent after_message_sent node_after_access core_event in_order finished unit_at step after run owner_after owner witness report_of chip_slots sweeps
 read_and_written_prints = refl
 
+-- no count is lost
 pub counting_ends : (let r = swept_report counting 1000000 60 in
     (r.accesses ≡ map counted (0 ∷ 1 ∷ 2 ∷ 3 ∷ [])) × (r.windows ≡ 1) × (r.hops ≡ 12) × (r.memory ≡ 4 ∷ 0 ∷ 0 ∷ 0 ∷ []))
 unfolding digits x_of y_of has without_port has_tile tree_outs slots at put loaded set_number after_post after_tick after_take after_entry after_hop local_place after_serve after_send next_channel after_data_hop after_data_eject after_inject after_request_post after_network_tick after_vector_take expected_at after_copy_hop after_delivery lookup has_room installed without_line without_shared lowest_for wanted marked_sent holding after_snoop after_data answered back_arrived node_after_request node_after_message after_request_sent after_message_sent node_after_access core_event in_order finished unit_at step after run owner_after owner witness report_of chip_slots sweeps

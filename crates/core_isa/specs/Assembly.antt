@@ -43,6 +43,7 @@ opcode_checks whole before None operands = record { fails = true; kind = Word } 
 opcode_checks whole before (Some o) operands =
     record { fails = nat_le limit before.count; kind = Length } ∷ operand_checks whole (form_of o).shapes operands
 
+-- what may be wrong with the words besides the label, in the order in which it is tried
 abbrev pub instruction_checks : Scope → Scope → List (List ℕ) → List Check
 instruction_checks whole before [] = []
 instruction_checks whole before (word ∷ operands) = opcode_checks whole before (opcode_named word) operands
@@ -56,6 +57,7 @@ fault_of whole before line =
 abbrev pub operand_values : Scope → List Shape → List (List ℕ) → List ℕ
 operand_values whole shapes operands = map (λ p. operand_value whole p.0 p.1) (zip shapes operands)
 
+-- the instruction of these words, if there are some and the first is an opcode's
 abbrev pub instr_of_words : Scope → List (List ℕ) → Option Instr
 instr_of_words whole [] = None
 instr_of_words whole (word ∷ operands) =
@@ -65,6 +67,7 @@ instr_of_words whole (word ∷ operands) =
 unfoldable pub instr_of : Scope → Line → Option Instr
 instr_of whole line = instr_of_words whole line.words
 
+-- a fault of this kind, in the line of this number
 abbrev pub fault_at : ℕ → AsmKind → AsmFault
 fault_at line kind = record { line = line; kind = kind }
 
@@ -79,6 +82,7 @@ first_fault whole before [] = None
 first_fault whole before (line ∷ rest) =
     fault_or (fault_of whole (scope_of before) line) (length before + 1) (first_fault whole (before ++ line ∷ []) rest)
 
+-- the fault, where there is one, and else the program
 abbrev pub outcome : Option AsmFault → List Instr → Result (List Instr) AsmFault
 outcome (Some fault) instrs = Err fault
 outcome None instrs = Ok instrs
@@ -89,6 +93,7 @@ program_of_lines lines =
     let whole = scope_of lines in
     outcome (first_fault whole [] lines) (filter_map (instr_of whole) lines)
 
+-- the program of a text, or its first fault
 unfoldable pub assembled : List ℕ → Result (List Instr) AsmFault
 assembled text = program_of_lines (lines_of text)
 

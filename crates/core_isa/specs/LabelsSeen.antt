@@ -13,6 +13,7 @@ use Rattle.core_isa.specs.Operands.{Scope, is_borne}
 unfoldable pub places_seen : BTreeMap (Bor (List ℕ)) ℕ → List ℕ → Option ℕ
 places_seen places name = get_by (λ label. slice_cmp nat_cmp name label.now) places
 
+-- the scope that the code's labels are
 abbrev pub scope_seen : code.Labels → Scope
 scope_seen labels = record { places = places_seen labels.places; count = labels.count }
 

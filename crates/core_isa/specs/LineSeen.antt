@@ -4,12 +4,15 @@ use Rattle.std.specs.Borrow.{Bor}
 use Rattle.core_isa.specs.declared.line.Line as code
 use Rattle.core_isa.specs.Lines.{Line, lines_with}
 
+-- the bytes of borrowed texts
 abbrev pub texts_seen : List (Bor (List ℕ)) → List (List ℕ)
 texts_seen texts = map (λ text. text.now) texts
 
+-- the bytes of a label, if there is one
 abbrev pub label_seen : Option (Bor (List ℕ)) → Option (List ℕ)
 label_seen label = option_map (λ text. text.now) label
 
+-- the line that the code's line is
 abbrev pub line_seen : code.Line → Line
 line_seen line = record { label = label_seen line.label; words = texts_seen line.words.items }
 

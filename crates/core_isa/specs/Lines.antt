@@ -15,6 +15,7 @@ is_comment_sign byte = byte == 35
 unfoldable pub is_white : ℕ → Bool
 is_white byte = byte == 32 || byte == 9 || byte == 13
 
+-- whether a part between white bytes is a word: it has some bytes
 abbrev pub is_filled : List ℕ → Bool
 is_filled word = not (length word == 0)
 
@@ -31,9 +32,11 @@ pub record Line : Type 0 where
 abbrev pub is_label : List ℕ → Bool
 is_label word = slice_index word (length word - 1) == 58
 
+-- the name of a label: its word without the colon
 abbrev pub label_of : List ℕ → List ℕ
 label_of word = take (length word - 1) word
 
+-- the line of these words
 abbrev pub line_with : List (List ℕ) → Line
 line_with [] = record { label = None; words = [] }
 line_with (word ∷ words) =
@@ -41,9 +44,11 @@ line_with (word ∷ words) =
     then record { label = Some (label_of word); words = words }
     else record { label = None; words = word ∷ words }
 
+-- the line of a text that has no line feed
 abbrev pub source_line : List ℕ → Line
 source_line raw = line_with (words_of raw)
 
+-- the lines of these texts
 abbrev pub lines_with : List (List ℕ) → List Line
 lines_with raws = map source_line raws
 
@@ -55,9 +60,11 @@ lines_of text = lines_with (slice_split is_line_feed text)
 abbrev pub begins_name : ℕ → Bool
 begins_name byte = is_ascii_alphabetic byte || byte == 95
 
+-- what may follow in a name
 abbrev pub continues_name : ℕ → Bool
 continues_name byte = begins_name byte || is_ascii_digit byte
 
+-- whether a word is a name
 abbrev pub is_name : List ℕ → Bool
 is_name [] = false
 is_name (byte ∷ bytes) = begins_name byte && list_all continues_name bytes
@@ -66,5 +73,6 @@ is_name (byte ∷ bytes) = begins_name byte && list_all continues_name bytes
 abbrev pub has_instruction : Line → Bool
 has_instruction line = nat_lt 0 (length line.words)
 
+-- how many lines have an instruction
 abbrev pub instruction_count : List Line → ℕ
 instruction_count lines = count_by has_instruction lines

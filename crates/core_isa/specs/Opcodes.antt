@@ -9,11 +9,13 @@ use Rattle.core_isa.specs.declared.instr.Instr.TheVariants.{Li, Add, Sub, Addi, 
 use Rattle.core_isa.specs.declared.opcode.Opcode.{Opcode}
 use Rattle.core_isa.specs.declared.opcode.Opcode.TheVariants as opcode
 
+-- what an operand is: a register, a number, or the target of a jump
 pub data Shape : Type 0 where
   Register : Shape
   Number : Shape
   Target : Shape
 
+-- of an opcode its word, and the shapes of its operands
 pub record Form : Type 0 where
   pub word : List ℕ
   pub shapes : List Shape
@@ -34,6 +36,7 @@ form_of opcode.Jmp = record { word = codes "jmp"; shapes = Target ∷ [] }
 form_of opcode.Tid = record { word = codes "tid"; shapes = Register ∷ [] }
 form_of opcode.Halt = record { word = codes "halt"; shapes = [] }
 
+-- the opcodes, in the order of the table
 abbrev pub all_opcodes : List Opcode
 all_opcodes = opcode.Li ∷ opcode.Add ∷ opcode.Sub ∷ opcode.Addi ∷ opcode.Ld ∷ opcode.St ∷ opcode.Swap ∷ opcode.Fadd ∷ opcode.Beq ∷ opcode.Bne ∷ opcode.Jmp ∷ opcode.Tid ∷ opcode.Halt ∷ []
 
@@ -57,6 +60,7 @@ instr_with opcode.Jmp v = Jmp (slice_index v 0)
 instr_with opcode.Tid v = Tid (slice_index v 0)
 instr_with opcode.Halt v = Halt
 
+-- the opcode of an instruction
 abbrev pub opcode_of : Instr → Opcode
 opcode_of (Li rd n) = opcode.Li
 opcode_of (Add rd ra rb) = opcode.Add
@@ -72,6 +76,7 @@ opcode_of (Jmp target) = opcode.Jmp
 opcode_of (Tid rd) = opcode.Tid
 opcode_of Halt = opcode.Halt
 
+-- the operands of an instruction, in the order of the table
 abbrev pub operands_of : Instr → List ℕ
 operands_of (Li rd n) = rd ∷ n ∷ []
 operands_of (Add rd ra rb) = rd ∷ ra ∷ rb ∷ []

@@ -25,6 +25,7 @@ place_from place name (line ∷ rest) =
     then Some place
     else place_from (if has_instruction line then place + 1 else place) name rest
 
+-- the scope of these lines: the labels that they bear, and how many instructions they have
 abbrev pub scope_of : List Line → Scope
 scope_of lines = record { places = λ name. place_from 0 name lines; count = instruction_count lines }
 
@@ -32,6 +33,7 @@ scope_of lines = record { places = λ name. place_from 0 name lines; count = ins
 abbrev pub is_register : List ℕ → Bool
 is_register word = length word == 2 && (slice_index word 0 == 114 && (nat_le 48 (slice_index word 1) && nat_lt (slice_index word 1) 56))
 
+-- the number of a register
 abbrev pub register_value : List ℕ → ℕ
 register_value word = slice_index word 1 - 48
 
@@ -39,9 +41,11 @@ register_value word = slice_index word 1 - 48
 abbrev pub is_digits : List ℕ → Bool
 is_digits word = nat_lt 0 (length word) && all_ascii_digits word
 
+-- the number that digits stand for
 abbrev pub number_value : List ℕ → ℕ
 number_value word = digits_value 10 word
 
+-- a number is digits of a value below 2^32
 abbrev pub is_number : List ℕ → Bool
 is_number word = is_digits word && nat_lt (number_value word) (2 ^ 32)
 
@@ -53,12 +57,14 @@ is_place word = slice_index word 0 == 64
 abbrev pub is_place_up_to : ℕ → List ℕ → Bool
 is_place_up_to end word = is_digits word && nat_le (number_value word) end
 
+-- a target is a place within the program, or the name of a label of the scope
 abbrev pub is_target : Scope → List ℕ → Bool
 is_target scope word =
     if is_place word
     then is_place_up_to scope.count (drop 1 word)
     else is_some (scope.places word)
 
+-- the place that a target stands for
 abbrev pub target_value : Scope → List ℕ → ℕ
 target_value scope word = if is_place word then number_value (drop 1 word) else unwrap_or (scope.places word) 0
 
@@ -74,6 +80,7 @@ fault_kind Register = kind.Register
 fault_kind Number = kind.Number
 fault_kind Target = kind.Label
 
+-- what an operand of this shape stands for
 abbrev pub operand_value : Scope → Shape → List ℕ → ℕ
 operand_value scope Register word = register_value word
 operand_value scope Number word = number_value word

@@ -7,6 +7,7 @@ use Rattle.core_isa.specs.LineSeen.{texts_seen}
 use Rattle.core_isa.specs.LabelsSeen.{scope_seen}
 use Rattle.core_isa.specs.Reading.{Reads}
 
+-- the bytes of the operands' words
 abbrev pub words_seen : code.Operands → List (List ℕ)
 words_seen operands = texts_seen operands.words.now
 

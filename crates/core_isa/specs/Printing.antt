@@ -11,9 +11,11 @@ operand_text Register n = 114 ∷ decimal n
 operand_text Number n = decimal n
 operand_text Target n = 64 ∷ decimal n
 
+-- the operands, each after a space
 abbrev pub operand_texts : List Shape → List ℕ → List ℕ
 operand_texts shapes operands = flat_map (λ p. 32 ∷ operand_text p.0 p.1) (zip shapes operands)
 
+-- the line of an instruction
 abbrev pub text_of : Instr → List ℕ
 text_of i = (form_of (opcode_of i)).word ++ operand_texts (form_of (opcode_of i)).shapes (operands_of i) ++ 10 ∷ []
 

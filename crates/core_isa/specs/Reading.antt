@@ -22,6 +22,7 @@ IsValue len Register v = IsRegister v
 IsValue len Number v = IsNumber v
 IsValue len Target v = v ≤ len
 
+-- the values may be those of operands of these shapes
 abbrev pub AreValues : ℕ → List Shape → List ℕ → Type 0
 AreValues len [] [] = Unit {0}
 AreValues len [] (v ∷ vs) = ⊥

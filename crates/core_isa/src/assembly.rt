@@ -97,7 +97,8 @@ fn instr_of_line<'a>(
 // A label is a name, and stands on no line before.
 fn check_label<'a>(label: Option<&'a [u8]>, before: &Labels<'a>) -> Result<(), AsmKind>
     ensures { let checks = label_checks (scope_seen before.now) (label_seen label.entry) in
-        MatchResult result (λ _. first_failing checks ≡ None) (λ kind. first_failing checks ≡ Some kind) }
+        MatchResult result (λ _. first_failing checks ≡ None)
+        (λ kind. first_failing checks ≡ Some kind) }
 {
     let Some(label) = label else {
         return Ok(());
@@ -116,7 +117,8 @@ fn instr_of_words<'a>(
     whole: &Labels<'a>,
     before: &Labels<'a>,
 ) -> Result<Option<Instr>, AsmKind>
-    ensures { ReadsWords (scope_seen whole.now) (scope_seen before.now) (texts_seen words.now) result }
+    ensures { ReadsWords
+        (scope_seen whole.now) (scope_seen before.now) (texts_seen words.now) result }
 {
     match words {
         [] => Ok(None),
@@ -153,7 +155,8 @@ fn instr_named<'a>(
 }
 
 fn instr_with_operands(opcode: Opcode, operands: &Operands<'_, '_>) -> Result<Instr, AsmKind>
-    ensures { ReadsInstr (scope_seen operands.now.whole.now) opcode (words_seen operands.now) result }
+    ensures { ReadsInstr
+        (scope_seen operands.now.whole.now) opcode (words_seen operands.now) result }
 {
     match opcode {
         Opcode::Li => {

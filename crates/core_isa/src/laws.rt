@@ -6,5 +6,6 @@ ghost use Rattle.core_isa.specs.Printing.{program_text};
 
 /// The printed lines of a program assemble to that program.
 pub fn printed_program_assembles()
-    ensures { (instrs : List Instr) → IsProgram instrs → assembled (program_text instrs) ≡ Ok instrs }
+    ensures { (instrs : List Instr) → IsProgram instrs
+        → assembled (program_text instrs) ≡ Ok instrs }
 {}

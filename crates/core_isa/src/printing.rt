@@ -1,6 +1,6 @@
-ghost use Rattle.std.specs.Prelude.{◌≡◌, ◌+◌, ◌≤◌, ◌∷◌, ◌++◌, OnOk, OnErr};
+ghost use Rattle.std.specs.Prelude.{◌≡◌, ◌+◌, ◌≤◌, ◌∷◌, ◌++◌};
 ghost use Rattle.arrayvec.specs.ArrayString.{array_string_len};
-ghost use Rattle.outside_io.specs.Streams.{Rose, Appends, AppendsPart};
+ghost use Rattle.outside_io.specs.Streams.{stream, Writes};
 ghost use Rattle.core_isa.specs.Opcodes.{form_of, opcode_of, operands_of, Register, Number, Target};
 ghost use Rattle.core_isa.specs.Printing.{operand_text, operand_texts, text_of};
 
@@ -15,10 +15,7 @@ const LINE_SIZE: usize = 32;
 
 /// Writes the line of an instruction, with its line feed, as one piece. It takes no memory.
 pub fn print_instr<K: Sink>(instr: &Instr, sink: &mut K) -> Result<(), WriteFault>
-    ensures ok { OnOk result (Appends (K.held sink.old) (K.held sink.new) (text_of instr.now)) }
-    ensures err { OnErr result (AppendsPart (K.held sink.old) (K.held sink.new) (text_of instr.now)) }
-    ensures fault { OnErr result (Rose (K.faults sink.old) (K.faults sink.new)) }
-    ensures count { K.faults sink.old ≤ K.faults sink.new }
+    ensures { Writes (stream K.held K.faults sink.old sink.new) (text_of instr.now) result }
 {
     let line = line_text(instr);
     write_piece(sink, line.as_str().as_bytes())

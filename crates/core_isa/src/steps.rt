@@ -16,7 +16,8 @@ pub fn core_laws()
     ensures many { (program : List Instr) (n : ℕ) (core new : CoreState)
         → advanced program n core ≡ Some new → DidMore n core new }
     ensures joined { (program : List Instr) (m n : ℕ) (core : CoreState)
-        → advanced program (m + n) core ≡ option_and_then (advanced program n) (advanced program m core) }
+        → advanced program (m + n) core
+        ≡ option_and_then (advanced program n) (advanced program m core) }
 
     // The register of a load, a swap and an add receives the word that was read.
     ensures received { (program : List Instr) (core : CoreState) (rd address word : ℕ)

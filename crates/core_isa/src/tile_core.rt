@@ -22,7 +22,12 @@ impl Model for Core {
 
     ghost Value = { CoreState };
 
-    ghost view = { λ core. record { tile = core.tile; registers = core.registers; place = core.place; steps = core.steps } };
+    ghost view = { λ core. record {
+      tile = core.tile;
+      registers = core.registers;
+      place = core.place;
+      steps = core.steps;
+    } };
 
     ghost invariant = { λ core. core.place ≤ limit };
 }

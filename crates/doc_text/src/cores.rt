@@ -1,6 +1,5 @@
-ghost use Rattle.std.specs.Prelude.{◌≡◌, ◌≤◌, OnOk, OnErr};
 ghost use Rattle.core_isa.specs.Printing.{program_text};
-ghost use Rattle.outside_io.specs.Streams.{Rose, Appends, AppendsPart};
+ghost use Rattle.outside_io.specs.Streams.{stream, Writes};
 ghost use Rattle.doc_text.specs.Canonical.{code_text, core_text, cores_text};
 
 use crate::line::{write_name, write_number_line};
@@ -10,10 +9,8 @@ use outside_io::{Sink, WriteFault, write_piece};
 
 /// Writes the lines of the tiles' programs.
 pub(crate) fn write_cores<K: Sink>(document: &Document, sink: &mut K) -> Result<(), WriteFault>
-    ensures ok { OnOk result (Appends (K.held sink.old) (K.held sink.new) (cores_text 0 document.now.programs)) }
-    ensures err { OnErr result (AppendsPart (K.held sink.old) (K.held sink.new) (cores_text 0 document.now.programs)) }
-    ensures fault { OnErr result (Rose (K.faults sink.old) (K.faults sink.new)) }
-    ensures count { K.faults sink.old ≤ K.faults sink.new }
+    ensures { Writes (stream K.held K.faults sink.old sink.new)
+        (cores_text 0 document.now.programs) result }
 {
     let programs = document.programs.as_slice();
     for (tile, program) in programs.iter().enumerate() {
@@ -24,10 +21,7 @@ pub(crate) fn write_cores<K: Sink>(document: &Document, sink: &mut K) -> Result<
 
 // An empty line and the lines of a tile's program, where it has instructions.
 fn write_core<K: Sink>(tile: usize, instrs: &[Instr], sink: &mut K) -> Result<(), WriteFault>
-    ensures ok { OnOk result (Appends (K.held sink.old) (K.held sink.new) (core_text tile instrs.now)) }
-    ensures err { OnErr result (AppendsPart (K.held sink.old) (K.held sink.new) (core_text tile instrs.now)) }
-    ensures fault { OnErr result (Rose (K.faults sink.old) (K.faults sink.new)) }
-    ensures count { K.faults sink.old ≤ K.faults sink.new }
+    ensures { Writes (stream K.held K.faults sink.old sink.new) (core_text tile instrs.now) result }
 {
     if instrs.is_empty() {
         return Ok(());
@@ -40,10 +34,7 @@ fn write_core<K: Sink>(tile: usize, instrs: &[Instr], sink: &mut K) -> Result<()
 
 // The lines of a program, between the line of its key and the end of the text.
 fn write_code<K: Sink>(instrs: &[Instr], sink: &mut K) -> Result<(), WriteFault>
-    ensures ok { OnOk result (Appends (K.held sink.old) (K.held sink.new) (code_text instrs.now)) }
-    ensures err { OnErr result (AppendsPart (K.held sink.old) (K.held sink.new) (code_text instrs.now)) }
-    ensures fault { OnErr result (Rose (K.faults sink.old) (K.faults sink.new)) }
-    ensures count { K.faults sink.old ≤ K.faults sink.new }
+    ensures { Writes (stream K.held K.faults sink.old sink.new) (code_text instrs.now) result }
 {
     write_name("", Key::Code, " = '''\n", sink)?;
     write_instrs(instrs, sink)?;
@@ -52,10 +43,7 @@ fn write_code<K: Sink>(instrs: &[Instr], sink: &mut K) -> Result<(), WriteFault>
 
 // The lines of the instructions.
 fn write_instrs<K: Sink>(instrs: &[Instr], sink: &mut K) -> Result<(), WriteFault>
-    ensures ok { OnOk result (Appends (K.held sink.old) (K.held sink.new) (program_text instrs.now)) }
-    ensures err { OnErr result (AppendsPart (K.held sink.old) (K.held sink.new) (program_text instrs.now)) }
-    ensures fault { OnErr result (Rose (K.faults sink.old) (K.faults sink.new)) }
-    ensures count { K.faults sink.old ≤ K.faults sink.new }
+    ensures { Writes (stream K.held K.faults sink.old sink.new) (program_text instrs.now) result }
 {
     for instr in instrs {
         print_instr(instr, sink)?;

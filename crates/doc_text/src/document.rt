@@ -31,7 +31,8 @@ impl Document {
     pub fn windows(&self) -> &[Tiles]
         ensures windows { result.now ≡ self.now.posts }
         ensures few { length self.now.posts ≤ 4096 }
-        ensures each { AllByRecursion (AreTiles (self.now.mesh.cols * self.now.mesh.rows)) self.now.posts }
+        ensures each { AllByRecursion
+            (AreTiles (self.now.mesh.cols * self.now.mesh.rows)) self.now.posts }
     {
         self.posts.as_slice()
     }

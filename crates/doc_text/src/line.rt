@@ -1,8 +1,8 @@
 //! Single lines of the canonical text, and the pieces in which long ones are written.
-ghost use Rattle.std.specs.Prelude.{◌≡◌, ◌+◌, ◌<◌, ◌≤◌, ◌++◌, length, map, All, OnOk, OnErr};
+ghost use Rattle.std.specs.Prelude.{◌≡◌, ◌+◌, ◌<◌, ◌≤◌, ◌++◌, length, map, All};
 ghost use Rattle.std.specs.List.{join_with_byte};
 ghost use Rattle.arrayvec.specs.ArrayString.{array_string_len};
-ghost use Rattle.outside_io.specs.Streams.{Rose, Appends, AppendsPart};
+ghost use Rattle.outside_io.specs.Streams.{stream, Writes};
 ghost use Rattle.doc_text.specs.Canonical.{value_line, list_text, numbers_text};
 ghost use Rattle.doc_text.specs.Keys.{row_of};
 
@@ -16,15 +16,15 @@ use outside_io::{Sink, WriteFault, write_piece};
 const LINE_SIZE: usize = 64;
 
 // The name of a key between two texts.
-fn named(before: &str, key: Key, behind: &str) -> ArrayString<LINE_SIZE>
-    requires { length before.now + length behind.now ≤ 12 }
-    ensures text { result.bytes ≡ before.now ++ (row_of key).name ++ behind.now }
+fn named(before: &str, key: Key, after: &str) -> ArrayString<LINE_SIZE>
+    requires { length before.now + length after.now ≤ 12 }
+    ensures text { result.bytes ≡ before.now ++ (row_of key).name ++ after.now }
     ensures len { array_string_len result ≤ 23 }
 {
     let mut text = ArrayString::new();
     text.push_str(before);
     text.push_str(key.name());
-    text.push_str(behind);
+    text.push_str(after);
     text
 }
 
@@ -32,16 +32,14 @@ fn named(before: &str, key: Key, behind: &str) -> ArrayString<LINE_SIZE>
 pub(crate) fn write_name<K: Sink>(
     before: &str,
     key: Key,
-    behind: &str,
+    after: &str,
     sink: &mut K,
 ) -> Result<(), WriteFault>
-    requires { length before.now + length behind.now ≤ 12 }
-    ensures ok { OnOk result (Appends (K.held sink.old) (K.held sink.new) (before.now ++ (row_of key).name ++ behind.now)) }
-    ensures err { OnErr result (AppendsPart (K.held sink.old) (K.held sink.new) (before.now ++ (row_of key).name ++ behind.now)) }
-    ensures fault { OnErr result (Rose (K.faults sink.old) (K.faults sink.new)) }
-    ensures count { K.faults sink.old ≤ K.faults sink.new }
+    requires { length before.now + length after.now ≤ 12 }
+    ensures { Writes (stream K.held K.faults sink.old sink.new)
+        (before.now ++ (row_of key).name ++ after.now) result }
 {
-    write_piece(sink, named(before, key, behind).as_str().as_bytes())
+    write_piece(sink, named(before, key, after).as_str().as_bytes())
 }
 
 /// Writes the line of a key whose value is a number as one piece.
@@ -50,10 +48,8 @@ pub(crate) fn write_number_line<K: Sink, N: Integer>(
     number: N,
     sink: &mut K,
 ) -> Result<(), WriteFault>
-    ensures ok { OnOk result (Appends (K.held sink.old) (K.held sink.new) (value_line key (N.text number))) }
-    ensures err { OnErr result (AppendsPart (K.held sink.old) (K.held sink.new) (value_line key (N.text number))) }
-    ensures fault { OnErr result (Rose (K.faults sink.old) (K.faults sink.new)) }
-    ensures count { K.faults sink.old ≤ K.faults sink.new }
+    ensures { Writes (stream K.held K.faults sink.old sink.new)
+        (value_line key (N.text number)) result }
 {
     let mut line = named("", key, " = ");
     line.push_str(Buffer::new().format(number));
@@ -68,10 +64,8 @@ pub(crate) fn write_list_line<K: Sink, N: Integer>(
     sink: &mut K,
 ) -> Result<(), WriteFault>
     requires { 0 < length numbers.now }
-    ensures ok { OnOk result (Appends (K.held sink.old) (K.held sink.new) (value_line key (list_text (map N.text numbers.now)))) }
-    ensures err { OnErr result (AppendsPart (K.held sink.old) (K.held sink.new) (value_line key (list_text (map N.text numbers.now)))) }
-    ensures fault { OnErr result (Rose (K.faults sink.old) (K.faults sink.new)) }
-    ensures count { K.faults sink.old ≤ K.faults sink.new }
+    ensures { Writes (stream K.held K.faults sink.old sink.new)
+        (value_line key (list_text (map N.text numbers.now))) result }
 {
     let opening = named("", key, " = [");
     write_numbers(opening.as_str(), numbers, sink)?;
@@ -86,10 +80,8 @@ pub(crate) fn write_lists_line<K: Sink>(
 ) -> Result<(), WriteFault>
     requires some { 0 < length lists.now }
     requires each { All (λ list. 0 < length list) lists.now }
-    ensures ok { OnOk result (Appends (K.held sink.old) (K.held sink.new) (value_line key (list_text (map numbers_text lists.now)))) }
-    ensures err { OnErr result (AppendsPart (K.held sink.old) (K.held sink.new) (value_line key (list_text (map numbers_text lists.now)))) }
-    ensures fault { OnErr result (Rose (K.faults sink.old) (K.faults sink.new)) }
-    ensures count { K.faults sink.old ≤ K.faults sink.new }
+    ensures { Writes (stream K.held K.faults sink.old sink.new)
+        (value_line key (list_text (map numbers_text lists.now))) result }
 {
     let opening = named("", key, " = [[");
     let mut before = opening.as_str();
@@ -108,10 +100,8 @@ fn write_numbers<K: Sink, N: Integer>(
 ) -> Result<(), WriteFault>
     requires some { 0 < length numbers.now }
     requires short { length before.now ≤ 23 }
-    ensures ok { OnOk result (Appends (K.held sink.old) (K.held sink.new) (before.now ++ join_with_byte 44 (map N.text numbers.now))) }
-    ensures err { OnErr result (AppendsPart (K.held sink.old) (K.held sink.new) (before.now ++ join_with_byte 44 (map N.text numbers.now))) }
-    ensures fault { OnErr result (Rose (K.faults sink.old) (K.faults sink.new)) }
-    ensures count { K.faults sink.old ≤ K.faults sink.new }
+    ensures { Writes (stream K.held K.faults sink.old sink.new)
+        (before.now ++ join_with_byte 44 (map N.text numbers.now)) result }
 {
     let mut before = before;
     for &number in numbers {
@@ -128,10 +118,8 @@ fn write_number<K: Sink, N: Integer>(
     sink: &mut K,
 ) -> Result<(), WriteFault>
     requires { length before.now ≤ 23 }
-    ensures ok { OnOk result (Appends (K.held sink.old) (K.held sink.new) (before.now ++ N.text number)) }
-    ensures err { OnErr result (AppendsPart (K.held sink.old) (K.held sink.new) (before.now ++ N.text number)) }
-    ensures fault { OnErr result (Rose (K.faults sink.old) (K.faults sink.new)) }
-    ensures count { K.faults sink.old ≤ K.faults sink.new }
+    ensures { Writes (stream K.held K.faults sink.old sink.new)
+        (before.now ++ N.text number) result }
 {
     let mut piece: ArrayString<LINE_SIZE> = ArrayString::new();
     piece.push_str(before);

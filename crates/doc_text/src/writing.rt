@@ -1,5 +1,5 @@
-ghost use Rattle.std.specs.Prelude.{◌≡◌, ◌≤◌, OnOk, OnErr};
-ghost use Rattle.outside_io.specs.Streams.{Rose, Appends, AppendsPart};
+ghost use Rattle.std.specs.Prelude.{◌≡◌};
+ghost use Rattle.outside_io.specs.Streams.{stream, Writes};
 ghost use Rattle.doc_text.specs.Canonical.{canonical, posts_text, sizes, sizes_text, mesh_text, shown_words, memory_text};
 ghost use Rattle.doc_text.specs.Doc.{doc_of};
 
@@ -12,10 +12,8 @@ use outside_io::{Sink, WriteFault, write_piece};
 /// Writes the canonical text of a document, line by line, and long lists number by number. It takes no memory. Where
 /// the sink fails it holds a prefix of the text.
 pub fn write_document<K: Sink>(document: &Document, sink: &mut K) -> Result<(), WriteFault>
-    ensures ok { OnOk result (Appends (K.held sink.old) (K.held sink.new) (canonical (doc_of document.now))) }
-    ensures err { OnErr result (AppendsPart (K.held sink.old) (K.held sink.new) (canonical (doc_of document.now))) }
-    ensures fault { OnErr result (Rose (K.faults sink.old) (K.faults sink.new)) }
-    ensures count { K.faults sink.old ≤ K.faults sink.new }
+    ensures { Writes (stream K.held K.faults sink.old sink.new)
+        (canonical (doc_of document.now)) result }
 {
     write_posts(document, sink)?;
     write_mesh(document, sink)?;
@@ -25,10 +23,8 @@ pub fn write_document<K: Sink>(document: &Document, sink: &mut K) -> Result<(), 
 
 // The line of what is posted and an empty line, where something is posted.
 fn write_posts<K: Sink>(document: &Document, sink: &mut K) -> Result<(), WriteFault>
-    ensures ok { OnOk result (Appends (K.held sink.old) (K.held sink.new) (posts_text document.now.posts)) }
-    ensures err { OnErr result (AppendsPart (K.held sink.old) (K.held sink.new) (posts_text document.now.posts)) }
-    ensures fault { OnErr result (Rose (K.faults sink.old) (K.faults sink.new)) }
-    ensures count { K.faults sink.old ≤ K.faults sink.new }
+    ensures { Writes (stream K.held K.faults sink.old sink.new)
+        (posts_text document.now.posts) result }
 {
     let posts = document.posts.as_slice();
     if posts.is_empty() {
@@ -41,10 +37,8 @@ fn write_posts<K: Sink>(document: &Document, sink: &mut K) -> Result<(), WriteFa
 // The lines of the mesh.
 #[tactic(auto, using(crate::proofs::SomeTiles::some_tiles))]
 fn write_mesh<K: Sink>(document: &Document, sink: &mut K) -> Result<(), WriteFault>
-    ensures ok { OnOk result (Appends (K.held sink.old) (K.held sink.new) (mesh_text (doc_of document.now))) }
-    ensures err { OnErr result (AppendsPart (K.held sink.old) (K.held sink.new) (mesh_text (doc_of document.now))) }
-    ensures fault { OnErr result (Rose (K.faults sink.old) (K.faults sink.new)) }
-    ensures count { K.faults sink.old ≤ K.faults sink.new }
+    ensures { Writes (stream K.held K.faults sink.old sink.new)
+        (mesh_text (doc_of document.now)) result }
 {
     write_name("[", Key::Mesh, "]\n", sink)?;
     write_sizes(&sizes(document), sink)?;
@@ -71,10 +65,7 @@ fn sizes(document: &Document) -> [(Key, u16); 8]
 
 // A line for each of the sizes.
 fn write_sizes<K: Sink>(sizes: &[(Key, u16)], sink: &mut K) -> Result<(), WriteFault>
-    ensures ok { OnOk result (Appends (K.held sink.old) (K.held sink.new) (sizes_text sizes.now)) }
-    ensures err { OnErr result (AppendsPart (K.held sink.old) (K.held sink.new) (sizes_text sizes.now)) }
-    ensures fault { OnErr result (Rose (K.faults sink.old) (K.faults sink.new)) }
-    ensures count { K.faults sink.old ≤ K.faults sink.new }
+    ensures { Writes (stream K.held K.faults sink.old sink.new) (sizes_text sizes.now) result }
 {
     for &(key, size) in sizes {
         write_number_line(key, size, sink)?;
@@ -84,10 +75,8 @@ fn write_sizes<K: Sink>(sizes: &[(Key, u16)], sink: &mut K) -> Result<(), WriteF
 
 // The line of the words of memory that are shown, where there are some.
 fn write_memory<K: Sink>(words: &[u32], sink: &mut K) -> Result<(), WriteFault>
-    ensures ok { OnOk result (Appends (K.held sink.old) (K.held sink.new) (memory_text (shown_words words.now))) }
-    ensures err { OnErr result (AppendsPart (K.held sink.old) (K.held sink.new) (memory_text (shown_words words.now))) }
-    ensures fault { OnErr result (Rose (K.faults sink.old) (K.faults sink.new)) }
-    ensures count { K.faults sink.old ≤ K.faults sink.new }
+    ensures { Writes (stream K.held K.faults sink.old sink.new)
+        (memory_text (shown_words words.now)) result }
 {
     match shown_words(words) {
         [] => Ok(()),

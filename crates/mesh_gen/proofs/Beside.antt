@@ -4,17 +4,18 @@ use Rattle.std.specs.Prelude.{◌&&◌, nat_lt}
 use Rattle.std.proofs.lemmas.Bool.{ltb-true, lt-ltb}
 use Rattle.mesh_gen.specs.declared.port.Port.{Port}
 use Rattle.mesh_gen.specs.declared.port.Port.TheVariants.{L, E, W, N, S}
-use Rattle.mesh_gen.specs.Grid.{Grid, tiles, x_of, y_of, when, neighbour}
+use Rattle.mesh_gen.specs.Partial.{when}
+use Rattle.mesh_gen.specs.Grid.{Grid, tiles, x_of, y_of, neighbour}
 use Rattle.mesh_gen.specs.Ports.{opposite}
 use Rattle.mesh_gen.specs.Routes.{HasTiles}
 use Rattle.mesh_gen.proofs.Coordinates.{x_below, y_below, in_grid, at_east, at_west, at_south, at_north, has_row_above, has_one_before}
 
-when_some : (a b : Bool) (t n : ℕ) → when (a && b) t ≡ Some n → (a ≡ true) × (b ≡ true) × (t ≡ n)
+when_some : (a b : Bool) (t n : ℕ) → when (a && b) (Some t) ≡ Some n → (a ≡ true) × (b ≡ true) × (t ≡ n)
 when_some true true t n is = (refl, refl, cc)
 when_some true false t n is = cc
 when_some false b t n is = cc
 
-some_when : (a b : Bool) (t n : ℕ) → a ≡ true → b ≡ true → t ≡ n → when (a && b) t ≡ Some n
+some_when : (a b : Bool) (t n : ℕ) → a ≡ true → b ≡ true → t ≡ n → when (a && b) (Some t) ≡ Some n
 some_when a b t n first second is = rw (first, second, is)
 
 -- n stands on this side of r

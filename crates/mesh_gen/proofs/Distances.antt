@@ -1,12 +1,12 @@
 -- Distances along the sides of a tile.
-use Rattle.std.proofs.Common.{◌≡◌, ◌≢◌, ℕ, suc, ◌+◌, ◌-◌, ◌<◌, ◌≤◌, Bool, true, ◌&&◌, Some, refl, inl, inr, arith}
-use Rattle.std.proofs.lemmas.Bool.{cases_eq, cases_lt, lt-ltb}
+use Rattle.std.proofs.Common.{◌≡◌, ◌≢◌, ℕ, suc, ◌+◌, ◌-◌, ◌<◌, ◌≤◌, Some, inl, inr, arith}
+use Rattle.std.proofs.lemmas.Bool.{cases_eq, cases_lt}
 use Rattle.mesh_gen.specs.declared.port.Port.{Port}
 use Rattle.mesh_gen.specs.declared.port.Port.TheVariants.{L, E, W, N, S}
-use Rattle.mesh_gen.specs.Grid.{Grid, tiles, x_of, y_of, distance, neighbour, when}
+use Rattle.mesh_gen.specs.Grid.{Grid, tiles, x_of, y_of, distance, neighbour}
 use Rattle.mesh_gen.specs.Routes.{HasTiles}
 use Rattle.mesh_gen.proofs.Coordinates.{same_tile, x_below, y_below}
-use Rattle.mesh_gen.proofs.Beside.{Beside, beside, east_of, west_of, north_of, south_of}
+use Rattle.mesh_gen.proofs.Beside.{beside, east_of, west_of, north_of, south_of}
 
 -- a tile is no hop from itself
 pub distance-same : (g : Grid) (t : ℕ) → distance g t t ≡ 0

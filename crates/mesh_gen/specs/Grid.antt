@@ -1,12 +1,15 @@
 -- Tiles in columns and rows, numbered from 0 row by row.
-use Rattle.std.specs.Prelude.{ℕ, ◌+◌, ◌-◌, ◌*◌, ◌/◌, ◌%◌, nat_lt, Bool, ◌&&◌, Option, Some, None, if◌then◌else◌}
+use Rattle.std.specs.Prelude.{ℕ, ◌+◌, ◌-◌, ◌*◌, ◌/◌, ◌%◌, nat_lt, ◌&&◌, Option, Some, None}
+use Rattle.mesh_gen.specs.Partial.{when}
 use Rattle.mesh_gen.specs.declared.port.Port.{Port}
 use Rattle.mesh_gen.specs.declared.port.Port.TheVariants.{L, E, W, N, S}
 
+-- how many columns and rows of tiles a chip has
 pub record Grid : Type 0 where
   pub cols : ℕ
   pub rows : ℕ
 
+-- how many tiles there are
 abbrev pub tiles : Grid → ℕ
 tiles g = g.cols * g.rows
 
@@ -14,6 +17,7 @@ tiles g = g.cols * g.rows
 unfoldable pub x_of : Grid → ℕ → ℕ
 x_of g t = t % g.cols
 
+-- the row of a tile
 unfoldable pub y_of : Grid → ℕ → ℕ
 y_of g t = t / g.cols
 
@@ -29,14 +33,10 @@ distance g a b = gap (x_of g a) (x_of g b) + gap (y_of g a) (y_of g b)
 abbrev pub diameter : Grid → ℕ
 diameter g = (g.cols - 1) + (g.rows - 1)
 
--- the tile, where there is one
-abbrev pub when : Bool → ℕ → Option ℕ
-when there t = if there then Some t else None
-
 -- the tile on a side of a tile: none beyond an edge, on the tile's own side, or beside what is no tile
 abbrev pub neighbour : Grid → ℕ → Port → Option ℕ
 neighbour g t L = None
-neighbour g t E = when (nat_lt t (tiles g) && nat_lt (x_of g t + 1) g.cols) (t + 1)
-neighbour g t W = when (nat_lt t (tiles g) && nat_lt 0 (x_of g t)) (t - 1)
-neighbour g t N = when (nat_lt t (tiles g) && nat_lt 0 (y_of g t)) (t - g.cols)
-neighbour g t S = when (nat_lt t (tiles g) && nat_lt (y_of g t + 1) g.rows) (t + g.cols)
+neighbour g t E = when (nat_lt t (tiles g) && nat_lt (x_of g t + 1) g.cols) (Some (t + 1))
+neighbour g t W = when (nat_lt t (tiles g) && nat_lt 0 (x_of g t)) (Some (t - 1))
+neighbour g t N = when (nat_lt t (tiles g) && nat_lt 0 (y_of g t)) (Some (t - g.cols))
+neighbour g t S = when (nat_lt t (tiles g) && nat_lt (y_of g t + 1) g.rows) (Some (t + g.cols))

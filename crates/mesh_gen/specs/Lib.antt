@@ -1,4 +1,5 @@
 pub mod Limits
+pub mod Partial
 pub mod Grid
 pub mod Mesh
 pub mod TileSet

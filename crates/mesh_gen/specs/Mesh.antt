@@ -23,5 +23,6 @@ pub record HasSize (cols rows window : ℕ) (mesh : Mesh) : Type 0 where
 abbrev pub home_among : List ℕ → ℕ → ℕ
 home_among controllers line = slice_index controllers (line % length controllers)
 
+-- the home of a line: the tile whose memory controller keeps it
 abbrev pub home : Mesh → ℕ → ℕ
 home mesh line = home_among mesh.controllers line

@@ -25,7 +25,8 @@ impl Flags for Ports {
 
     ghost exact = { ⊤ };
 
-    ghost table = { (codes "L", 1) ∷ (codes "E", 2) ∷ (codes "W", 4) ∷ (codes "N", 8) ∷ (codes "S", 16) ∷ [] };
+    ghost table = { (codes "L", 1) ∷ (codes "E", 2) ∷ (codes "W", 4) ∷ (codes "N", 8)
+        ∷ (codes "S", 16) ∷ [] };
 
     ghost set_of = { λ ports. ports.0 };
 

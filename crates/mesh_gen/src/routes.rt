@@ -68,7 +68,8 @@ impl Mesh {
 pub fn route_laws()
     // A message that came by its route goes on to a port of lower rank, and comes nearer to its tile.
     ensures ranks { (g : Grid) (dest r n : ℕ) (q : Port) → HasTiles g → Travels g dest r q
-        → neighbour g r (route g r dest) ≡ Some n → rank g n (opposite (route g r dest)) < rank g r q }
+        → neighbour g r (route g r dest) ≡ Some n
+        → rank g n (opposite (route g r dest)) < rank g r q }
     ensures nearer { (g : Grid) (dest r n : ℕ) → HasTiles g
         → neighbour g r (route g r dest) ≡ Some n → distance g r dest ≡ distance g n dest + 1 }
 
@@ -78,9 +79,13 @@ pub fn route_laws()
         → (n : ℕ) × (neighbour g r (route g r dest) ≡ Some n) × (n < tiles g) }
 
     // Where it may stand by its column and row: where it enters, and after each hop. There the ranks fall.
-    ensures is_route_channel { (g : Grid) (dest r : ℕ) (q : Port) → HasTiles g → Travels g dest r q → IsRouteChannel g dest r q }
+    ensures is_route_channel { (g : Grid) (dest r : ℕ) (q : Port) → HasTiles g → Travels g dest r q
+        → IsRouteChannel g dest r q }
     ensures stands_on { (g : Grid) (dest r n : ℕ) → HasTiles g
-        → neighbour g r (route g r dest) ≡ Some n → IsRouteChannel g dest n (opposite (route g r dest)) }
-    ensures ranks_there { (g : Grid) (dest r n : ℕ) (q : Port) → HasTiles g → IsRouteChannel g dest r q
-        → neighbour g r (route g r dest) ≡ Some n → rank g n (opposite (route g r dest)) < rank g r q }
+        → neighbour g r (route g r dest) ≡ Some n
+        → IsRouteChannel g dest n (opposite (route g r dest)) }
+    ensures ranks_there { (g : Grid) (dest r n : ℕ) (q : Port) → HasTiles g
+        → IsRouteChannel g dest r q
+        → neighbour g r (route g r dest) ≡ Some n
+        → rank g n (opposite (route g r dest)) < rank g r q }
 {}

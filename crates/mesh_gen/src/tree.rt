@@ -48,7 +48,8 @@ impl Mesh {
         requires router { r < tiles (grid self.now) }
         ensures bits { bits_of result ≡ tree_outs (grid self.now) s r }
         ensures small { bits_of result < 32 }
-        ensures ports { (port : Port) → has (bits_of result) port ≡ leaves_by (grid self.now) s r port }
+        ensures ports { (port : Port)
+            → has (bits_of result) port ≡ leaves_by (grid self.now) s r port }
     {
         Ports::L
             .union(self.branch(s, r, Port::E))
@@ -72,7 +73,8 @@ impl Mesh {
 /// The laws of broadcast trees, over every grid with tiles. At run time it does nothing.
 pub fn tree_laws()
     // One edge enters each router but the source, from its parent. None enters the source.
-    ensures entered { (g : Grid) (s n : ℕ) → HasTiles g → s < tiles g → n < tiles g → n ≢ s → IsEnteredOnce g s n }
+    ensures entered { (g : Grid) (s n : ℕ) → HasTiles g → s < tiles g → n < tiles g → n ≢ s
+        → IsEnteredOnce g s n }
     ensures source_free { (g : Grid) (s r : ℕ) (p : Port) → HasTiles g → Edge g s r p s → ⊥ }
 
     // Following parents leads to the source, in as many steps as there are hops between them.
@@ -95,5 +97,6 @@ pub fn tree_laws()
     // A port that serves a tile is one of the tree, and two ports of a router serve no tile together.
     ensures leaves { (g : Grid) (s r v : ℕ) (p : Port) → HasTiles g → r < tiles g → v < tiles g
         → covers g s r v p ≡ true → leaves_by g s r p ≡ true }
-    ensures apart { (g : Grid) (s r v : ℕ) (p q : Port) → covers g s r v p ≡ true → covers g s r v q ≡ true → p ≡ q }
+    ensures apart { (g : Grid) (s r v : ℕ) (p q : Port) → covers g s r v p ≡ true
+        → covers g s r v q ≡ true → p ≡ q }
 {}

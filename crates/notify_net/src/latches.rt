@@ -31,10 +31,15 @@ impl Model for Latches {
 
     ghost Value = { LatchState };
 
-    ghost view = { λ s. record { grid = record { cols = s.cols; rows = s.rows }; latches = s.latches.items } };
+    ghost view = { λ s. record {
+      grid = record { cols = s.cols; rows = s.rows };
+      latches = s.latches.items;
+    } };
 
-    ghost invariant = { λ s. (length s.latches.items ≡ s.cols * s.rows) × (length s.next.items ≡ s.cols * s.rows)
-        × AreLinks (record { cols = s.cols; rows = s.rows }) s.links.items × (s.cols * s.rows ≤ 64) };
+    ghost invariant = { λ s. (length s.latches.items ≡ s.cols * s.rows)
+        × (length s.next.items ≡ s.cols * s.rows)
+        × AreLinks (record { cols = s.cols; rows = s.rows }) s.links.items
+        × (s.cols * s.rows ≤ 64) };
 }
 
 impl Latches {
@@ -57,7 +62,8 @@ impl Latches {
     pub fn post(&mut self, t: u8)
         requires { t < tiles self.old.grid }
         ensures posted { self.new ≡ latches_after_post t self.old }
-        ensures phase { (g : Grid) (posts : List ℕ) → IsAtPhase g posts 0 self.old → IsAtPhase g (posts ++ t ∷ []) 0 self.new }
+        ensures phase { (g : Grid) (posts : List ℕ) → IsAtPhase g posts 0 self.old
+            → IsAtPhase g (posts ++ t ∷ []) 0 self.new }
     {
         post_at(&mut self.latches, t);
     }
@@ -65,7 +71,8 @@ impl Latches {
     /// Each latch takes in what the latches of its neighbours hold, all at once.
     pub fn tick(&mut self)
         ensures ticked { Ticks self.old self.new }
-        ensures phase { (g : Grid) (posts : List ℕ) (k : ℕ) → IsAtPhase g posts k self.old → IsAtPhase g posts (k + 1) self.new }
+        ensures phase { (g : Grid) (posts : List ℕ) (k : ℕ) → IsAtPhase g posts k self.old
+            → IsAtPhase g posts (k + 1) self.new }
     {
         take_in(&self.latches, &self.links, &mut self.next);
         mem::swap(&mut self.latches, &mut self.next);
@@ -75,9 +82,11 @@ impl Latches {
     pub fn merged_at(&self, t: u8) -> u64
         requires { t < tiles self.now.grid }
         ensures held { result ≡ slice_index self.now.latches t }
-        ensures merged { (g : Grid) (posts : List ℕ) (k : ℕ) → IsAtPhase g posts k self.now → result ≡ merged g posts k t }
+        ensures merged { (g : Grid) (posts : List ℕ) (k : ℕ) → IsAtPhase g posts k self.now
+            → result ≡ merged g posts k t }
         // After as many ticks as the mesh is wide, that is all who posted.
-        ensures whole { (g : Grid) (posts : List ℕ) (k : ℕ) → IsAtPhase g posts k self.now → diameter g ≤ k → result ≡ set_of posts }
+        ensures whole { (g : Grid) (posts : List ℕ) (k : ℕ) → IsAtPhase g posts k self.now
+            → diameter g ≤ k → result ≡ set_of posts }
     {
         self.latches[usize::from(t)]
     }
@@ -118,7 +127,8 @@ fn take_in(latches: &[u64], links: &[Sides], next: &mut [u64])
     requires words { length next.old ≡ length latches.now }
     requires rows { length links.now ≡ length latches.now }
     requires beside { All (AreBelow (length latches.now)) links.now }
-    ensures { (t : ℕ) → t < length latches.now → IfSome (slice_get links.now t) (λ sides. slice_index next.new t ≡ union_of latches.now t sides) }
+    ensures { (t : ℕ) → t < length latches.now → IfSome (slice_get links.now t) (λ sides.
+        slice_index next.new t ≡ union_of latches.now t sides) }
 {
     for t in 0..latches.len() {
         next[t] = union(latches, t, links[t]);

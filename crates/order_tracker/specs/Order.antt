@@ -1,11 +1,11 @@
 -- The global order of requests: what every interface derives from the merged vectors of the windows.
-use Rattle.std.specs.Prelude.{ℕ, zero, suc, ◌+◌, ◌-◌, ◌%◌, ◌==◌, List, [], ◌∷◌, ◌++◌, take, filter, count_by, Option, option_map, slice_get}
+use Rattle.std.specs.Prelude.{ℕ, ◌+◌, ◌-◌, ◌%◌, ◌==◌, List, [], ◌∷◌, ◌++◌, take, filter, count_by, Option, option_map, slice_get}
+use Rattle.std.specs.List.{range_with_len}
 use Rattle.mesh_gen.specs.TileSet.{has_tile}
 
 -- so many numbers, upwards from a first one
 abbrev pub upwards : ℕ → ℕ → List ℕ
-upwards first zero = []
-upwards first (suc count) = first ∷ upwards (first + 1) count
+upwards first count = range_with_len first count
 
 -- n tiles, upwards from a first one and then from tile 0 up to it
 abbrev pub round_from : ℕ → ℕ → List ℕ

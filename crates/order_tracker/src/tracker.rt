@@ -29,17 +29,25 @@ impl Model for Tracker {
 
     ghost Value = { TrackerState };
 
-    ghost view = { λ s. record { tiles = s.tiles; windows = s.windows.items; number = s.number; used = s.used.items; room = s.windows.capacity } };
+    ghost view = { λ s. record {
+      tiles = s.tiles;
+      windows = s.windows.items;
+      number = s.number;
+      used = s.used.items;
+      room = s.windows.capacity;
+    } };
 
     ghost invariant = { λ s. (0 < s.tiles) × (s.tiles ≤ 64) × (length s.used.items ≡ s.tiles)
-        × AllByRecursion (IsWindow s.tiles) s.windows.items × (s.number + length s.windows.items < 2 ^ 63)
+        × AllByRecursion (IsWindow s.tiles) s.windows.items
+        × (s.number + length s.windows.items < 2 ^ 63)
         × (length s.windows.items ≤ s.windows.capacity) };
 }
 
 impl Tracker {
     /// It has room for as many windows as there are request channels: `tiles × (5 × vcs + 4)`.
     pub fn open(alloc: Global, mesh: &Mesh) -> Result<Tracker, NoMemory>
-        ensures new { IfOk result (IsNew (tiles (grid mesh.now)) (tiles (grid mesh.now) * (5 * mesh.now.vcs + 4))) }
+        ensures new { IfOk result (IsNew
+            (tiles (grid mesh.now)) (tiles (grid mesh.now) * (5 * mesh.now.vcs + 4))) }
         ensures follows { IfOk result (Follows [] 0) }
     {
         let channels = 5 * usize::from(mesh.vcs) + 4;
@@ -61,7 +69,8 @@ impl Tracker {
         requires room { length self.old.windows < self.old.room }
         requires count { self.old.number + length self.old.windows + 1 < 2 ^ 63 }
         ensures pushed { self.new ≡ record self.old { windows = self.old.windows ++ vector ∷ [] } }
-        ensures follows { (windows : List ℕ) (used : ℕ) → Follows windows used self.old → Follows (windows ++ vector ∷ []) used self.new }
+        ensures follows { (windows : List ℕ) (used : ℕ) → Follows windows used self.old
+            → Follows (windows ++ vector ∷ []) used self.new }
     {
         self.windows.push_back(vector);
     }
@@ -70,7 +79,8 @@ impl Tracker {
     pub fn expected(&self) -> Option<(u8, u32)>
         ensures next { result ≡ next_request_of self.now }
         ensures none { IsNone result ↔ (self.now.windows ≡ []) }
-        ensures follows { (windows : List ℕ) (used : ℕ) → Follows windows used self.now → result ≡ entry_at (order self.now.tiles windows) used }
+        ensures follows { (windows : List ℕ) (used : ℕ) → Follows windows used self.now
+            → result ≡ entry_at (order self.now.tiles windows) used }
     {
         match self.windows.front() {
             None => None,
@@ -86,13 +96,16 @@ impl Tracker {
         requires expected { IsSome (next_request_of self.old) }
         requires count { IfSome (next_request_of self.old) (λ entry. entry.1 + 1 < 2 ^ 31) }
         ensures left { left_of self.new ≡ drop 1 (left_of self.old) }
-        ensures used { IfSome (next_request_of self.old) (λ entry. self.new.used ≡ slice_set self.old.used entry.0 (entry.1 + 1)) }
+        ensures used { IfSome (next_request_of self.old) (λ entry.
+            self.new.used ≡ slice_set self.old.used entry.0 (entry.1 + 1)) }
         ensures room { (self.new.tiles ≡ self.old.tiles) × (self.new.room ≡ self.old.room) }
         ensures windows { length self.new.windows ≤ length self.old.windows }
         // A window that is used up is gone.
         ensures sets { AllByRecursion (IsWindow self.new.tiles) self.new.windows }
-        ensures pushed { self.new.number + length self.new.windows ≡ self.old.number + length self.old.windows }
-        ensures follows { (windows : List ℕ) (used : ℕ) → Follows windows used self.old → Follows windows (used + 1) self.new }
+        ensures pushed { self.new.number + length self.new.windows
+            ≡ self.old.number + length self.old.windows }
+        ensures follows { (windows : List ℕ) (used : ℕ) → Follows windows used self.old
+            → Follows windows (used + 1) self.new }
     {
         let source = pass_over(&mut self.windows, self.tiles, &mut self.number);
         self.used[usize::from(source)] += 1;
@@ -116,7 +129,8 @@ fn pass_over(windows: &mut HeapCircularBuffer<u64>, tiles: u8, number: &mut u64)
     requires some { 0 < length windows.old.items }
     requires room { length windows.old.items ≤ windows.old.capacity }
     requires count { number.old + length windows.old.items < 2 ^ 63 }
-    ensures left { order_from tiles number.old windows.old.items ≡ result ∷ order_from tiles number.new windows.new.items }
+    ensures left { order_from tiles number.old windows.old.items
+        ≡ result ∷ order_from tiles number.new windows.new.items }
     ensures tile { result < tiles }
     ensures windows { AllByRecursion (IsWindow tiles) windows.new.items }
     ensures count { number.new + length windows.new.items ≡ number.old + length windows.old.items }

@@ -1,5 +1,5 @@
 -- What calls of a source or a sink do to its bytes and to its count of faults.
-use Rattle.std.specs.Prelude.{◌≡◌, ℕ, ◌+◌, ◌-◌, ◌^◌, ◌≤◌, min, List, ◌++◌, Option, option_map}
+use Rattle.std.specs.Prelude.{◌≡◌, ℕ, ◌+◌, ◌-◌, ◌^◌, ◌≤◌, min, List, ◌++◌, Option, option_map, Result, OnOk, OnErr}
 
 -- a count of faults rose: it is greater than before, or stands at the last value of a u64
 abbrev pub Rose : ℕ → ℕ → Type 0
@@ -31,3 +31,11 @@ pub record Stream : Type 0 where
 -- what was done to a source or a sink that tells these bytes and counts these faults
 abbrev pub stream : {S : Type 0} → (S → Option (List ℕ)) → (S → ℕ) → S → S → Stream
 stream bytes faults old new = record { old = bytes old; new = bytes new; before = faults old; now = faults new }
+
+-- of writing a text to a sink: the whole text was appended, or at an error a prefix of it, after a call of the sink failed.
+-- The count of faults does not fall
+pub record Writes {T E : Type 0} (sink : Stream) (text : List ℕ) (result : Result T E) : Type 0 where
+  pub ok : OnOk result (Appends sink.old sink.new text)
+  pub err : OnErr result (AppendsPart sink.old sink.new text)
+  pub fault : OnErr result (Rose sink.before sink.now)
+  pub count : sink.before ≤ sink.now

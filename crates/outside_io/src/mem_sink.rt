@@ -20,7 +20,11 @@ impl Model for MemSink {
 
     ghost Value = { MemoryOutput };
 
-    ghost view = { λ s. record { held = take s.len s.room.items; room = length s.room.items; calls = s.calls } };
+    ghost view = { λ s. record {
+      held = take s.len s.room.items;
+      room = length s.room.items;
+      calls = s.calls;
+    } };
 
     ghost invariant = { λ s. s.len ≤ length s.room.items };
 }
@@ -29,7 +33,11 @@ impl MemSink {
     /// Holds nothing at first, and at most as many bytes as `room` has, which are written over from the front.
     /// Exactly the calls whose numbers, from 0, stand in `fails` fail, and those that find no room for their piece.
     pub fn new(room: Vec<u8>, fails: Vec<u32>) -> MemSink
-        ensures { result ≡ record { held = []; room = length room.items; calls = record { fails = fails.items; number = 0; faults = 0 } } }
+        ensures { result ≡ record {
+          held = [];
+          room = length room.items;
+          calls = record { fails = fails.items; number = 0; faults = 0 };
+        } }
     {
         MemSink {
             room,
@@ -65,13 +73,20 @@ impl Sink for MemSink {
     fn write(&mut self, piece: &[u8]) -> Result<usize, Failed>
         ensures fails { IsErr result ↔ (Contains self.old.calls.fails self.old.calls.number
             ⊎ ((length self.old.held ≡ self.old.room) × (piece.now ≢ []))) }
-        ensures given { IfOk result (λ n. n ≡ min (length piece.now) (self.old.room - length self.old.held)) }
-        ensures ok { IfOk result (λ n. self.new ≡ record self.old { held = self.old.held ++ take n piece.now; calls = passed self.old.calls }) }
-        ensures failed { OnErr result (self.new ≡ record self.old { calls = failed self.old.calls }) }
+        ensures given { IfOk result (λ n.
+            n ≡ min (length piece.now) (self.old.room - length self.old.held)) }
+        ensures ok { IfOk result (λ n. self.new
+            ≡ record self.old {
+              held = self.old.held ++ take n piece.now;
+              calls = passed self.old.calls;
+            }) }
+        ensures failed { OnErr result (self.new
+            ≡ record self.old { calls = failed self.old.calls }) }
 
         // What every sink keeps to.
         ensures within { IfOk result (λ n. n ≤ length piece.now) }
-        ensures appended { IfOk result (λ n. Appends (Some self.old.held) (Some self.new.held) (take n piece.now)) }
+        ensures appended { IfOk result (λ n.
+            Appends (Some self.old.held) (Some self.new.held) (take n piece.now)) }
         ensures some { result ≡ Ok 0 → piece.now ≡ [] }
         ensures fault { OnErr result (Rose self.old.calls.faults self.new.calls.faults) }
         ensures err { OnErr result (Some self.new.held ≡ Some self.old.held) }

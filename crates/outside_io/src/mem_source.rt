@@ -21,7 +21,11 @@ impl Model for MemSource {
 
     ghost Value = { MemoryInput };
 
-    ghost view = { λ s. record { left = drop s.taken s.bytes.items; chunk = s.chunk; calls = s.calls } };
+    ghost view = { λ s. record {
+      left = drop s.taken s.bytes.items;
+      chunk = s.chunk;
+      calls = s.calls;
+    } };
 
     ghost invariant = { λ s. (s.taken ≤ length s.bytes.items) × (0 < s.chunk) };
 }
@@ -30,7 +34,11 @@ impl MemSource {
     /// Gives these bytes, at most `chunk` at a read. Exactly the calls whose numbers, from 0, stand in `fails` fail.
     pub fn new(bytes: Vec<u8>, chunk: u32, fails: Vec<u32>) -> MemSource
         requires { 0 < chunk }
-        ensures { result ≡ record { left = bytes.items; chunk = chunk; calls = record { fails = fails.items; number = 0; faults = 0 } } }
+        ensures { result ≡ record {
+          left = bytes.items;
+          chunk = chunk;
+          calls = record { fails = fails.items; number = 0; faults = 0 };
+        } }
     {
         MemSource {
             bytes,
@@ -58,13 +66,17 @@ impl Source for MemSource {
 
     fn read(&mut self, into: &mut [u8]) -> Result<usize, Failed>
         ensures fails { IsErr result ↔ Contains self.old.calls.fails self.old.calls.number }
-        ensures given { IfOk result (λ n. n ≡ min (min (length self.old.left) (length into.old)) self.old.chunk) }
-        ensures ok { IfOk result (λ n. self.new ≡ record self.old { left = drop n self.old.left; calls = passed self.old.calls }) }
-        ensures failed { OnErr result (self.new ≡ record self.old { calls = failed self.old.calls }) }
+        ensures given { IfOk result (λ n.
+            n ≡ min (min (length self.old.left) (length into.old)) self.old.chunk) }
+        ensures ok { IfOk result (λ n. self.new
+            ≡ record self.old { left = drop n self.old.left; calls = passed self.old.calls }) }
+        ensures failed { OnErr result (self.new
+            ≡ record self.old { calls = failed self.old.calls }) }
 
         // What every source keeps to.
         ensures within { IfOk result (λ n. n ≤ length into.old) }
-        ensures next { IfOk result (λ n. Some self.old.left ≡ Some (take n into.new ++ self.new.left)) }
+        ensures next { IfOk result (λ n.
+            Some self.old.left ≡ Some (take n into.new ++ self.new.left)) }
         ensures end { result ≡ Ok 0 → 0 < length into.old → self.old.left ≡ [] }
         ensures fault { OnErr result (Rose self.old.calls.faults self.new.calls.faults) }
         ensures err { OnErr result (Some self.new.left ≡ Some self.old.left) }

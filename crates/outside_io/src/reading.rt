@@ -29,13 +29,15 @@ const CHUNK: usize = 4096;
 /// Reads to the end of the input, and answers all its bytes where they are at most `limit`. It takes no more than one
 /// byte past the limit.
 pub fn read_all<S: Source>(alloc: Global, source: &mut S, limit: u32) -> Result<Vec<u8>, ReadEnd>
-    ensures whole { IfOk result (λ bytes. S.left source.old ≡ option_map (λ rest. bytes.items ++ rest) (S.left source.new)) }
+    ensures whole { IfOk result (λ bytes.
+        S.left source.old ≡ option_map (λ rest. bytes.items ++ rest) (S.left source.new)) }
     ensures end { IfOk result (λ _. IfSome (S.left source.new) (λ rest. rest ≡ [])) }
     ensures limited { IfOk result (λ bytes. length bytes.items ≤ limit) }
 
     ensures too_long { IsErrOf result ReadEnd.TooLong → IfSome (S.left source.old) (λ input.
         (limit < length input) × (S.left source.new ≡ Some (drop (limit + 1) input))) }
-    ensures fault { IsErrOf result ReadEnd.ReadFault → Rose (S.faults source.old) (S.faults source.new) }
+    ensures fault { IsErrOf result ReadEnd.ReadFault
+        → Rose (S.faults source.old) (S.faults source.new) }
 
     // Whatever the answer, the source has given some bytes from its front.
     ensures front { TakesPrefix (S.left source.old) (S.left source.new) }

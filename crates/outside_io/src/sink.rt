@@ -15,7 +15,8 @@ pub trait Sink {
     /// A failed call appends nothing.
     fn write(&mut self, piece: &[u8]) -> Result<usize, Failed>
         ensures within { IfOk result (λ n. n ≤ length piece.now) }
-        ensures appended { IfOk result (λ n. Appends (held self.old) (held self.new) (take n piece.now)) }
+        ensures appended { IfOk result (λ n.
+            Appends (held self.old) (held self.new) (take n piece.now)) }
         ensures some { result ≡ Ok 0 → piece.now ≡ [] }
         ensures fault { OnErr result (Rose (faults self.old) (faults self.new)) }
         ensures err { OnErr result (held self.new ≡ held self.old) }

@@ -15,8 +15,10 @@ pub trait Source {
     /// room is the end of the input. A failed call takes nothing.
     fn read(&mut self, into: &mut [u8]) -> Result<usize, Failed>
         ensures within { IfOk result (λ n. n ≤ length into.old) }
-        ensures next { IfOk result (λ n. left self.old ≡ option_map (λ rest. take n into.new ++ rest) (left self.new)) }
-        ensures end { result ≡ Ok 0 → 0 < length into.old → IfSome (left self.old) (λ bytes. bytes ≡ []) }
+        ensures next { IfOk result (λ n.
+            left self.old ≡ option_map (λ rest. take n into.new ++ rest) (left self.new)) }
+        ensures end { result ≡ Ok 0 → 0 < length into.old
+            → IfSome (left self.old) (λ bytes. bytes ≡ []) }
         ensures fault { OnErr result (Rose (faults self.old) (faults self.new)) }
         ensures err { OnErr result (left self.new ≡ left self.old) }
         ensures count { faults self.old ≤ faults self.new };

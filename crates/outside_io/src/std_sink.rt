@@ -37,7 +37,8 @@ impl<W: Write + Drop> Sink for StdSink<W> {
     // A writer that takes nothing of a piece has failed: tried again, it might never end.
     fn write(&mut self, piece: &[u8]) -> Result<usize, Failed>
         // What the writer appends, where it tells that.
-        ensures given { IfOk result (λ n. WriterAppends (W.contents self.old.inner) (W.contents self.new.inner) (take n piece.now)) }
+        ensures given { IfOk result (λ n. WriterAppends
+            (W.contents self.old.inner) (W.contents self.new.inner) (take n piece.now)) }
 
         // What every sink keeps to.
         ensures within { IfOk result (λ n. n ≤ length piece.now) }

@@ -36,7 +36,8 @@ impl<R: Read + Drop> Source for StdSource<R> {
 
     fn read(&mut self, into: &mut [u8]) -> Result<usize, Failed>
         // What the reader gives, where it tells that.
-        ensures given { ReadConsumes (R.remaining self.old.inner) (R.remaining self.new.inner) result into.new }
+        ensures given { ReadConsumes
+            (R.remaining self.old.inner) (R.remaining self.new.inner) result into.new }
 
         // What every source keeps to.
         ensures within { IfOk result (λ n. n ≤ length into.old) }

@@ -1,5 +1,4 @@
-ghost use Rattle.std.specs.Prelude.{◌≡◌, ◌≤◌, OnOk, OnErr};
-ghost use Rattle.outside_io.specs.Streams.{Rose, Appends, AppendsPart};
+ghost use Rattle.outside_io.specs.Streams.{stream, Writes};
 
 use crate::Sink;
 
@@ -9,10 +8,7 @@ pub struct WriteFault;
 
 /// Appends the whole piece, in as many writes as the sink needs. It takes no memory.
 pub fn write_piece<K: Sink>(sink: &mut K, piece: &[u8]) -> Result<(), WriteFault>
-    ensures ok { OnOk result (Appends (K.held sink.old) (K.held sink.new) piece.now) }
-    ensures err { OnErr result (AppendsPart (K.held sink.old) (K.held sink.new) piece.now) }
-    ensures fault { OnErr result (Rose (K.faults sink.old) (K.faults sink.new)) }
-    ensures count { K.faults sink.old ≤ K.faults sink.new }
+    ensures { Writes (stream K.held K.faults sink.old sink.new) piece.now result }
 {
     let mut rest = piece;
     while !rest.is_empty() {

@@ -1,14 +1,15 @@
 -- What packed words record.
-use Rattle.std.proofs.Common.{◌≡◌, ℕ, ◌+◌, ◌≤◌, List, [], ◌∷◌, ◌++◌, All, length, refl, sym, ap, subst, ◌∙◌, arith, Some, replicate, drop, get_or, zero, suc, ◌<◌}
-use Rattle.std.specs.List.{flat_map}
+use Rattle.std.proofs.Common.{◌≡◌, ℕ, ◌+◌, ◌≤◌, List, [], ◌∷◌, ◌++◌, length, refl, sym, ap, subst, ◌∙◌, arith, replicate, drop, get_or, zero, suc, ◌<◌}
 use Rattle.std.proofs.lemmas.Grind.{flat_map-append}
-use Rattle.std.proofs.lemmas.List.{append-nil, length-append, length-replicate, drop_more}
+use Rattle.std.proofs.lemmas.List.{append-nil, length-append, length-replicate, drop_more, map-append}
 use Rattle.report_text.specs.declared.entry.Entry.{Entry}
 use Rattle.report_text.specs.declared.event.Event.{Event}
 use Rattle.report_text.specs.declared.event.Event.TheVariants.{Core}
 use Rattle.report_text.specs.Entry.{packed, IsValid}
 use Rattle.report_text.specs.Unpacking.{entry_near}
 use Rattle.report_text.specs.Journals.{recorded, recorded_by, IsEntryWord, AreEntryWords, events_of}
+use Rattle.report_text.specs.Lines.{ended, text_of_lines}
+use Rattle.report_text.specs.Report.{event_rows, event_line}
 use Rattle.report_text.proofs.Packing.{entry_near-packed}
 
 -- the word of an entry records the entry's events
@@ -60,3 +61,12 @@ events_of-drop words i below = ap events_of (drop_more words i 0 below)
 -- what the word of a valid entry records
 pub records : (word : ℕ) (entry : Entry) → IsValid entry × (packed entry ≡ word) → recorded_by (entry_near word) ≡ recorded entry
 records word entry is = ap (λ (w : ℕ). recorded_by (entry_near w)) (sym is.1) ∙ recorded-packed entry is.0
+
+-- the text of the events of the words from here on begins with that of the next word
+pub rows_of_next : (words : List ℕ) (i : ℕ) → i < length words
+    → text_of_lines (event_rows (events_of (drop i words))) ≡ text_of_lines (event_rows (recorded_by (entry_near (get_or words i 0)))) ++ text_of_lines (event_rows (events_of (drop (i + 1) words)))
+rows_of_next words i below =
+    let now = recorded_by (entry_near (get_or words i 0)) in
+    let rest = events_of (drop (i + 1) words) in
+    ap (λ (events : List Event). text_of_lines (event_rows events)) (events_of-drop words i below)
+    ∙ ap text_of_lines (map-append event_line now rest) ∙ flat_map-append ended (event_rows now) (event_rows rest)

@@ -18,6 +18,7 @@ fields_of (Way r port slot out) = record { tile = r; port = port_number port; sl
 abbrev pub packed_fields : ℕ → ℕ → ℕ → Fields → ℕ
 packed_fields cores by kind f = cores * 2 ^ 26 + by * 2 ^ 20 + kind * 2 ^ 16 + f.tile * 2 ^ 10 + f.port * 2 ^ 7 + f.slot * 2 ^ 3 + f.out
 
+-- the packed word of an entry
 abbrev pub packed : Entry → ℕ
 packed entry = packed_fields entry.cores entry.by (event_form entry.event).number (fields_of (event_form entry.event).operands)
 

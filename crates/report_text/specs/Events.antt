@@ -8,6 +8,7 @@ use Rattle.report_text.specs.declared.event.Event.TheVariants.{Tick, Core, Injec
 use Rattle.report_text.specs.declared.operands.Operands.{Operands}
 use Rattle.report_text.specs.declared.operands.Operands.TheVariants.{Nothing, Tile, Channel, Way}
 
+-- of an event its word, its number in a packed word, and what it names
 pub record EventForm : Type 0 where
   pub word : List ℕ
   pub number : ℕ
@@ -26,6 +27,7 @@ event_form (Hop r port slot out) = record { word = codes "hop"; number = 7; oper
 event_form (DataHop r port slot) = record { word = codes "datahop"; number = 8; operands = Channel r port slot }
 event_form (DataEject r port slot) = record { word = codes "dataeject"; number = 9; operands = Channel r port slot }
 
+-- the word of a port
 abbrev pub port_word : Port → List ℕ
 port_word L = codes "l"
 port_word E = codes "e"
@@ -33,6 +35,7 @@ port_word W = codes "w"
 port_word N = codes "n"
 port_word S = codes "s"
 
+-- the words of what an event names
 abbrev pub operand_words : Operands → List (List ℕ)
 operand_words Nothing = []
 operand_words (Tile t) = decimal t ∷ []

@@ -2,6 +2,7 @@
 use Rattle.std.specs.Prelude.{ℕ, ◌==◌, Bool, List, [], ◌∷◌, ◌++◌, length, if◌then◌else◌}
 use Rattle.std.specs.List.{flat_map, slice_split}
 
+-- a space divides the words of a line
 abbrev pub is_space : ℕ → Bool
 is_space byte = byte == 32
 
@@ -14,6 +15,7 @@ abbrev pub joined_words : List (List ℕ) → List ℕ
 joined_words [] = []
 joined_words (word ∷ words) = word ++ after_spaces words
 
+-- a line with its line feed
 abbrev pub ended : List ℕ → List ℕ
 ended line = line ++ 10 ∷ []
 
@@ -21,6 +23,7 @@ ended line = line ++ 10 ∷ []
 abbrev pub text_of_lines : List (List ℕ) → List ℕ
 text_of_lines lines = flat_map ended lines
 
+-- a line feed ends a line
 abbrev pub is_line_feed : ℕ → Bool
 is_line_feed byte = byte == 10
 

@@ -18,6 +18,7 @@ abbrev pub count_row_words : List (List ℕ)
 count_row_words =
     codes "requests" ∷ codes "seen" ∷ codes "accesses" ∷ codes "memory" ∷ codes "windows" ∷ codes "hops" ∷ codes "journal" ∷ []
 
+-- the first words of the lines of the lists
 abbrev pub item_row_words : List (List ℕ)
 item_row_words = codes "q" ∷ codes "s" ∷ codes "a" ∷ codes "m" ∷ []
 
@@ -29,6 +30,7 @@ passed_words = count_row_words ++ item_row_words ++ codes "ended" ∷ []
 abbrev pub is_passed : List ℕ → Bool
 is_passed line = list_any (bytes_eq (first_word line)) passed_words
 
+-- whether a line tells an event
 abbrev pub begins_with_e : List ℕ → Bool
 begins_with_e line = bytes_eq (first_word line) (codes "e")
 

@@ -14,6 +14,7 @@ use Rattle.report_text.specs.declared.finish.Finish.TheVariants.{Finished, Budge
 abbrev pub count_words : List ℕ → ℕ → List (List ℕ)
 count_words word count = word ∷ decimal count ∷ []
 
+-- the word of a kind of request
 abbrev pub kind_word : Kind → List ℕ
 kind_word GetS = codes "GetS"
 kind_word GetM = codes "GetM"
@@ -27,6 +28,7 @@ request_words place q = codes "q" ∷ decimal place ∷ decimal q.source ∷ dec
 abbrev pub tile_words : ℕ → ℕ → ℕ → List (List ℕ)
 tile_words tile seen steps = codes "s" ∷ decimal tile ∷ decimal seen ∷ decimal steps ∷ []
 
+-- the word of a kind of access
 abbrev pub access_kind_word : AccessKind → List ℕ
 access_kind_word Load = codes "ld"
 access_kind_word Store = codes "st"
@@ -46,6 +48,7 @@ access_words a = codes "a" ∷ decimal a.tile ∷ decimal a.number ∷ access_ki
 abbrev pub memory_words : ℕ → List ℕ → List (List ℕ)
 memory_words line words = codes "m" ∷ decimal line ∷ map decimal words
 
+-- how the run ended
 abbrev pub finish_words : Finish → List (List ℕ)
 finish_words Finished = codes "ended" ∷ codes "finished" ∷ []
 finish_words Budget = codes "ended" ∷ codes "budget" ∷ []

@@ -22,6 +22,7 @@ texts_seen texts = map (λ text. text.now) texts
 abbrev pub words_of : List ℕ → List (List ℕ)
 words_of line = slice_split is_space line
 
+-- one digit
 abbrev pub is_one_digit : List ℕ → Bool
 is_one_digit word = length word == 1 && is_ascii_digit (slice_index word 0)
 
@@ -41,12 +42,15 @@ abbrev pub at_most_said : ℕ → Option ℕ → Option ℕ
 at_most_said limit None = None
 at_most_said limit (Some n) = if nat_le n limit then Some n else None
 
+-- the tile or router that a word says
 abbrev pub tile_said : List ℕ → Option ℕ
 tile_said word = at_most_said 63 (number_said word)
 
+-- the slot that a word says
 abbrev pub slot_said : List ℕ → Option ℕ
 slot_said word = at_most_said 15 (number_said word)
 
+-- the ports at which a packet may stand
 abbrev pub all_ports : List Port
 all_ports = L ∷ E ∷ W ∷ N ∷ S ∷ []
 
@@ -58,6 +62,7 @@ output_ports = E ∷ W ∷ N ∷ S ∷ []
 unfoldable pub port_said : List Port → List ℕ → Option Port
 port_said ports word = find (λ p. bytes_eq word (port_word p)) ports
 
+-- what is made of the virtual channel that three words say
 abbrev pub channel_said : {X : Type 0} → (ℕ → Port → ℕ → Option X) → List ℕ → List ℕ → List ℕ → Option X
 channel_said make r port slot = option_and_then (λ t. option_and_then (λ p. option_and_then (λ s. make t p s) (slot_said slot)) (port_said all_ports port)) (tile_said r)
 

@@ -8,6 +8,7 @@ use Rattle.report_text.specs.declared.event.Event.{Event}
 use Rattle.report_text.specs.declared.event.Event.TheVariants.{Tick, Core, Inject, Post, Take, Eject, Send, Hop, DataHop, DataEject}
 use Rattle.report_text.specs.declared.operands.Fields.{Fields}
 
+-- the port of this number
 abbrev pub port_numbered : ℕ → Option Port
 port_numbered n =
     if n == 0 then Some L else if n == 1 then Some E else if n == 2 then Some W else if n == 3 then Some N else if n == 4 then Some S else None
@@ -31,6 +32,7 @@ event_numbered n f =
     else if n == 9 then at_channel (λ port. DataEject f.tile port f.slot) f.port
     else None
 
+-- the fields that a word has where it is a packed one
 abbrev pub fields_near : ℕ → Fields
 fields_near word = record { tile = word / 2 ^ 10 % 64; port = word / 2 ^ 7 % 8; slot = word / 2 ^ 3 % 16; out = word % 8 }
 

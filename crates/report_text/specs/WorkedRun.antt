@@ -12,10 +12,12 @@ use Rattle.report_text.specs.Entry.{packed}
 use Rattle.report_text.specs.Lines.{lines_of, text_of_lines}
 use Rattle.report_text.specs.Report.{access_rows, report_text}
 
+-- its journal
 abbrev pub run_events : List Event
 run_events =
     Core 0 ∷ Core 0 ∷ Inject 0 ∷ Post 0 ∷ Tick ∷ Take 0 ∷ Eject 0 ∷ Send 0 ∷ DataEject 0 L 0 ∷ Core 0 ∷ Core 0 ∷ []
 
+-- its report
 abbrev pub run_report : Report
 run_report =
     record {
@@ -30,6 +32,7 @@ run_report =
       ended = Finished;
     }
 
+-- the text of its report
 abbrev pub run_text : List ℕ
 run_text =
     codes "requests 1\nq 0 0 0 GetM 0\nseen 1\ns 0 1 3\naccesses 2\na 0 1 st 2 7 1\na 0 2 ld 2 7 1\nmemory 1\nm 0 0 0 7 0\nwindows 1\nhops 0\n"

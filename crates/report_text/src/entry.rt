@@ -58,7 +58,8 @@ impl Entry {
 
     /// The valid entry whose packed word this is. None for a word that is no valid entry's.
     pub fn unpack(word: u64) -> Option<Entry>
-        ensures { (entry : Entry) → (result ≡ Some entry) ↔ (IsValid entry × (packed entry ≡ word)) }
+        ensures { (entry : Entry) → (result ≡ Some entry)
+            ↔ (IsValid entry × (packed entry ≡ word)) }
     {
         let entry = Self::nearest(word)?;
         if entry.is_valid() && entry.pack() == word {

@@ -13,7 +13,8 @@ ghost use Rattle.report_text.specs.Report.{report_text};
 /// The text of a report tells its journal and no other list of events, where the journal's events are within the limits
 /// of packed words. At run time it does nothing.
 pub fn journal_is_read_back()
-    ensures { (report : Report) → AllByRecursion IsWithinLimits report.journal → (events : List Event)
+    ensures { (report : Report) → AllByRecursion IsWithinLimits report.journal
+        → (events : List Event)
         → Tells (lines_of (report_text report)) events ↔ (events ≡ report.journal) }
 {}
 

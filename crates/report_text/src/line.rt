@@ -1,5 +1,5 @@
-ghost use Rattle.std.specs.Prelude.{◌≡◌, ◌+◌, ◌<◌, ◌≤◌, ◌∷◌, ◌++◌, length, decimal, OnOk, OnErr};
-ghost use Rattle.outside_io.specs.Streams.{Rose, Appends, AppendsPart};
+ghost use Rattle.std.specs.Prelude.{◌≡◌, ◌+◌, ◌<◌, ◌≤◌, ◌∷◌, ◌++◌, length, decimal};
+ghost use Rattle.outside_io.specs.Streams.{stream, Writes};
 
 use arrayvec::ArrayString;
 use itoa::Buffer;
@@ -57,10 +57,7 @@ impl Line {
     /// Writes the line with its line feed, as one piece.
     pub fn write<K: Sink>(mut self, sink: &mut K) -> Result<(), WriteFault>
         requires { length self < LINE_SIZE }
-        ensures ok { OnOk result (Appends (K.held sink.old) (K.held sink.new) (ended self)) }
-        ensures err { OnErr result (AppendsPart (K.held sink.old) (K.held sink.new) (ended self)) }
-        ensures fault { OnErr result (Rose (K.faults sink.old) (K.faults sink.new)) }
-        ensures count { K.faults sink.old ≤ K.faults sink.new }
+        ensures { Writes (stream K.held K.faults sink.old sink.new) (ended self) result }
     {
         self.text.push('\n');
         write_piece(sink, self.text.as_str().as_bytes())

@@ -40,7 +40,8 @@ pub(crate) fn event_in(line: &[u8]) -> Option<Event>
 
 // The words of the line. None where it has more than the line of an event may have.
 fn split_words(line: &[u8]) -> Option<ArrayVec<&[u8], WORDS>>
-    ensures { MatchOption result (WORDS < length (words_of line.now)) (λ words. texts_seen words.items ≡ words_of line.now) }
+    ensures { MatchOption result (WORDS < length (words_of line.now)) (λ words.
+        texts_seen words.items ≡ words_of line.now) }
 {
     let mut words = ArrayVec::new();
     for word in line.split(|byte| *byte == b' ') {

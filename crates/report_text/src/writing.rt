@@ -1,5 +1,5 @@
-ghost use Rattle.std.specs.Prelude.{◌≡◌, ◌≤◌, length, OnOk, OnErr};
-ghost use Rattle.outside_io.specs.Streams.{Rose, Appends, AppendsPart};
+ghost use Rattle.std.specs.Prelude.{◌≡◌, length};
+ghost use Rattle.outside_io.specs.Streams.{stream, Writes};
 ghost use Rattle.report_text.specs.Journals.{IsEntryWord, recorded_by};
 ghost use Rattle.report_text.specs.Lines.{text_of_lines};
 ghost use Rattle.report_text.specs.Unpacking.{entry_near};
@@ -15,10 +15,7 @@ use outside_io::{Sink, WriteFault};
 /// Writes the text of the report, one piece a line. It takes no memory.
 pub fn write_report<K: Sink>(report: &Report, sink: &mut K) -> Result<(), WriteFault>
     requires { IsTabular report.now }
-    ensures ok { OnOk result (Appends (K.held sink.old) (K.held sink.new) (report_text report.now)) }
-    ensures err { OnErr result (AppendsPart (K.held sink.old) (K.held sink.new) (report_text report.now)) }
-    ensures fault { OnErr result (Rose (K.faults sink.old) (K.faults sink.new)) }
-    ensures count { K.faults sink.old ≤ K.faults sink.new }
+    ensures { Writes (stream K.held K.faults sink.old sink.new) (report_text report.now) result }
 {
     write_requests(report.requests.as_slice(), sink)?;
     write_tiles(report.seen.as_slice(), report.steps.as_slice(), sink)?;
@@ -30,10 +27,8 @@ pub fn write_report<K: Sink>(report: &Report, sink: &mut K) -> Result<(), WriteF
 }
 
 fn write_requests<K: Sink>(requests: &[Request], sink: &mut K) -> Result<(), WriteFault>
-    ensures ok { OnOk result (Appends (K.held sink.old) (K.held sink.new) (text_of_lines (request_part requests.now))) }
-    ensures err { OnErr result (AppendsPart (K.held sink.old) (K.held sink.new) (text_of_lines (request_part requests.now))) }
-    ensures fault { OnErr result (Rose (K.faults sink.old) (K.faults sink.new)) }
-    ensures count { K.faults sink.old ≤ K.faults sink.new }
+    ensures { Writes (stream K.held K.faults sink.old sink.new)
+        (text_of_lines (request_part requests.now)) result }
 {
     count_line("requests", requests.len() as u64).write(sink)?;
     for (place, request) in requests.iter().enumerate() {
@@ -44,10 +39,8 @@ fn write_requests<K: Sink>(requests: &[Request], sink: &mut K) -> Result<(), Wri
 
 fn write_tiles<K: Sink>(seen: &[u64], steps: &[u64], sink: &mut K) -> Result<(), WriteFault>
     requires { length seen.now ≡ length steps.now }
-    ensures ok { OnOk result (Appends (K.held sink.old) (K.held sink.new) (text_of_lines (tile_part seen.now steps.now))) }
-    ensures err { OnErr result (AppendsPart (K.held sink.old) (K.held sink.new) (text_of_lines (tile_part seen.now steps.now))) }
-    ensures fault { OnErr result (Rose (K.faults sink.old) (K.faults sink.new)) }
-    ensures count { K.faults sink.old ≤ K.faults sink.new }
+    ensures { Writes (stream K.held K.faults sink.old sink.new)
+        (text_of_lines (tile_part seen.now steps.now)) result }
 {
     count_line("seen", seen.len() as u64).write(sink)?;
     for (tile, requests) in seen.iter().enumerate() {
@@ -57,10 +50,8 @@ fn write_tiles<K: Sink>(seen: &[u64], steps: &[u64], sink: &mut K) -> Result<(),
 }
 
 fn write_accesses<K: Sink>(accesses: &[Access], sink: &mut K) -> Result<(), WriteFault>
-    ensures ok { OnOk result (Appends (K.held sink.old) (K.held sink.new) (text_of_lines (access_part accesses.now))) }
-    ensures err { OnErr result (AppendsPart (K.held sink.old) (K.held sink.new) (text_of_lines (access_part accesses.now))) }
-    ensures fault { OnErr result (Rose (K.faults sink.old) (K.faults sink.new)) }
-    ensures count { K.faults sink.old ≤ K.faults sink.new }
+    ensures { Writes (stream K.held K.faults sink.old sink.new)
+        (text_of_lines (access_part accesses.now)) result }
 {
     count_line("accesses", accesses.len() as u64).write(sink)?;
     for access in accesses {
@@ -70,10 +61,8 @@ fn write_accesses<K: Sink>(accesses: &[Access], sink: &mut K) -> Result<(), Writ
 }
 
 fn write_memory<K: Sink>(memory: &[u32], sink: &mut K) -> Result<(), WriteFault>
-    ensures ok { OnOk result (Appends (K.held sink.old) (K.held sink.new) (text_of_lines (memory_part memory.now))) }
-    ensures err { OnErr result (AppendsPart (K.held sink.old) (K.held sink.new) (text_of_lines (memory_part memory.now))) }
-    ensures fault { OnErr result (Rose (K.faults sink.old) (K.faults sink.new)) }
-    ensures count { K.faults sink.old ≤ K.faults sink.new }
+    ensures { Writes (stream K.held K.faults sink.old sink.new)
+        (text_of_lines (memory_part memory.now)) result }
 {
     let (lines, _) = memory.as_chunks::<4>();
     count_line("memory", lines.len() as u64).write(sink)?;
@@ -84,20 +73,16 @@ fn write_memory<K: Sink>(memory: &[u32], sink: &mut K) -> Result<(), WriteFault>
 }
 
 fn write_counts<K: Sink>(windows: u64, hops: u64, sink: &mut K) -> Result<(), WriteFault>
-    ensures ok { OnOk result (Appends (K.held sink.old) (K.held sink.new) (text_of_lines (count_part windows hops))) }
-    ensures err { OnErr result (AppendsPart (K.held sink.old) (K.held sink.new) (text_of_lines (count_part windows hops))) }
-    ensures fault { OnErr result (Rose (K.faults sink.old) (K.faults sink.new)) }
-    ensures count { K.faults sink.old ≤ K.faults sink.new }
+    ensures { Writes (stream K.held K.faults sink.old sink.new)
+        (text_of_lines (count_part windows hops)) result }
 {
     count_line("windows", windows).write(sink)?;
     count_line("hops", hops).write(sink)
 }
 
 fn write_journal<K: Sink>(journal: &Journal, sink: &mut K) -> Result<(), WriteFault>
-    ensures ok { OnOk result (Appends (K.held sink.old) (K.held sink.new) (text_of_lines (journal_part journal.now))) }
-    ensures err { OnErr result (AppendsPart (K.held sink.old) (K.held sink.new) (text_of_lines (journal_part journal.now))) }
-    ensures fault { OnErr result (Rose (K.faults sink.old) (K.faults sink.new)) }
-    ensures count { K.faults sink.old ≤ K.faults sink.new }
+    ensures { Writes (stream K.held K.faults sink.old sink.new)
+        (text_of_lines (journal_part journal.now)) result }
 {
     count_line("journal", journal.length()).write(sink)?;
     for word in journal.words() {
@@ -109,10 +94,8 @@ fn write_journal<K: Sink>(journal: &Journal, sink: &mut K) -> Result<(), WriteFa
 // The events that the word of an entry records.
 fn write_entry<K: Sink>(word: u64, sink: &mut K) -> Result<(), WriteFault>
     requires { IsEntryWord word }
-    ensures ok { OnOk result (Appends (K.held sink.old) (K.held sink.new) (text_of_lines (event_rows (recorded_by (entry_near word))))) }
-    ensures err { OnErr result (AppendsPart (K.held sink.old) (K.held sink.new) (text_of_lines (event_rows (recorded_by (entry_near word))))) }
-    ensures fault { OnErr result (Rose (K.faults sink.old) (K.faults sink.new)) }
-    ensures count { K.faults sink.old ≤ K.faults sink.new }
+    ensures { Writes (stream K.held K.faults sink.old sink.new)
+        (text_of_lines (event_rows (recorded_by (entry_near word)))) result }
 {
     let Some(entry) = Entry::unpack(word) else {
         unreachable!()

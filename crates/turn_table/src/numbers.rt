@@ -35,7 +35,9 @@ impl Numbers {
 
     /// Adds a number, if there is memory.
     pub(crate) fn add(&mut self, number: u64) -> bool
-        ensures { MatchBool result (self.new.items.items ≡ self.old.items.items ++ number ∷ []) (self.new.items.items ≡ self.old.items.items) }
+        ensures { MatchBool result
+            (self.new.items.items ≡ self.old.items.items ++ number ∷ [])
+            (self.new.items.items ≡ self.old.items.items) }
     {
         self.items.push(number).is_ok()
     }
@@ -46,10 +48,13 @@ pub(crate) fn add(turns: &Turns<Numbers>, seat: &mut TurnSeat, number: u64) -> R
     requires table { seat.old.table ≡ turns.now.table }
     requires first { (number - 5 ≡ seat.old.note.number) × (seat.old.note.own ≡ []) }
     ensures table { seat.new.table ≡ turns.now.table }
-    ensures err { OnErr result ((seat.new.note.number ≡ seat.old.note.number) × (seat.new.note.own ≡ [])) }
+    ensures err { OnErr result ((seat.new.note.number ≡ seat.old.note.number)
+        × (seat.new.note.own ≡ [])) }
 {
     let mut append = |numbers: &mut Numbers| -> bool
-        ensures { MatchBool result (numbers.new.items.items ≡ numbers.old.items.items ++ number ∷ []) (numbers.new.items.items ≡ numbers.old.items.items) }
+        ensures { MatchBool result
+            (numbers.new.items.items ≡ numbers.old.items.items ++ number ∷ [])
+            (numbers.new.items.items ≡ numbers.old.items.items) }
     { numbers.add(number) };
     turns.try_turn(seat, &mut append)
 }

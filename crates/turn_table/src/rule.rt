@@ -17,7 +17,8 @@ pub(crate) struct Start<V> {
 pub(crate) struct OneTurn;
 
 impl<V: Turned> TableRule<V, View, Start<V>> for OneTurn {
-    ghost holds = { λ start state. TurnRule V.entries V.names (V.entries start.value.value) start.seats state };
+    ghost holds = { λ start state.
+        TurnRule V.entries V.names (V.entries start.value.value) start.seats state };
 
     ghost first = { λ start. new_notes (V.entries start.value.value) start.seats 0 start.seats };
 }

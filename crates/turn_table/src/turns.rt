@@ -36,7 +36,8 @@ impl<V: Turned> Model for Turns<V> {
       seats = turns.table.shared.key.seats;
     } };
 
-    ghost invariant = { λ turns. IsTurnTable turns.table.shared.table_id turns.table.shared.key.seats };
+    ghost invariant = { λ turns.
+        IsTurnTable turns.table.shared.table_id turns.table.shared.key.seats };
 }
 
 impl<V: Turned> Turns<V> {
@@ -86,8 +87,10 @@ impl<V: Turned> Turns<V> {
         requires table { seat.old.table ≡ self.now.table }
         requires turn { MayTakeTurn V.entries V.names F.FnMut f.old seat.old.note }
         ensures table { seat.new.table ≡ seat.old.table }
-        ensures ok { IfOk result (λ answer. TookTurn V.entries V.names F.FnMut f.old seat.old.note answer f.new seat.new.note) }
-        ensures err { IfErr result (λ busy. (f.new ≡ f.old) × WasBusy seat.old.note busy seat.new.note) }
+        ensures ok { IfOk result (λ answer.
+            TookTurn V.entries V.names F.FnMut f.old seat.old.note answer f.new seat.new.note) }
+        ensures err { IfErr result (λ busy. (f.new ≡ f.old)
+            × WasBusy seat.old.note busy seat.new.note) }
     {
         let mut place = mem::replace(&mut seat.badge, Badge::blank()).into_seat::<V>();
         let answer = self.try_at(&mut place, f);
@@ -99,7 +102,8 @@ impl<V: Turned> Turns<V> {
     pub fn meet(self, seats: Vec<TurnSeat>) -> V
         requires table { All (λ seat. seat.table ≡ self.table) seats.items }
         requires all { length seats.items ≡ self.seats }
-        ensures { (made : List ℕ) × (V.entries result ≡ self.opening ++ made) × AccountFor V.names (notes_of seats.items) made }
+        ensures { (made : List ℕ) × (V.entries result ≡ self.opening ++ made)
+            × AccountFor V.names (notes_of seats.items) made }
     {
         let place = self.gather(seats);
         let Turns { table } = self;
@@ -112,7 +116,8 @@ impl<V: Turned> Turns<V> {
     // A seat for each note of the place.
     fn deal(&self, mut place: Seat<V, View>, mut row: Vec<TurnSeat>, seats: u8) -> Vec<TurnSeat>
         requires table { place.table_id ≡ self.now.table }
-        requires place { place.me ≡ (new_notes self.now.opening self.now.seats 0 self.now.seats, []) }
+        requires place { place.me
+            ≡ (new_notes self.now.opening self.now.seats 0 self.now.seats, []) }
         requires row { (row.items ≡ []) × (seats ≤ vec_capacity row) }
         requires seats { seats ≡ self.now.seats }
         ensures dealt { IsNew self.now.opening self.now.seats self.now result.items }
@@ -155,8 +160,10 @@ impl<V: Turned> Turns<V> {
         requires turn { MayTakeTurn V.entries V.names F.FnMut f.old (note_at place.old) }
         ensures table { place.new.table_id ≡ place.old.table_id }
         ensures place { IsPlace place.new }
-        ensures ok { IfOk result (λ answer. TookTurn V.entries V.names F.FnMut f.old (note_at place.old) answer f.new (note_at place.new)) }
-        ensures err { IfErr result (λ busy. (f.new ≡ f.old) × WasBusy (note_at place.old) busy (note_at place.new)) }
+        ensures ok { IfOk result (λ answer. TookTurn V.entries V.names F.FnMut
+            f.old (note_at place.old) answer f.new (note_at place.new)) }
+        ensures err { IfErr result (λ busy. (f.new ≡ f.old)
+            × WasBusy (note_at place.old) busy (note_at place.new)) }
     {
         let seen = self.load(place);
         if seen % 2 == 1 {
@@ -185,7 +192,8 @@ impl<V: Turned> Turns<V> {
         requires place { IsPlace place.old }
         requires seen { ((note_at place.old).seen ≡ seen) × (seen % 2 ≡ 0) }
         ensures table { (place.new.table_id ≡ place.old.table_id) × (place.new.id ≡ place.old.id) }
-        ensures exchanged { Exchanged V.entries V.names (note_at place.old) seen result place.new.me }
+        ensures exchanged { Exchanged V.entries V.names
+            (note_at place.old) seen result place.new.me }
     {
         self.table
             .shared
@@ -197,7 +205,8 @@ impl<V: Turned> Turns<V> {
         requires table { place.old.table_id ≡ self.now.table }
         requires turn { HasTurn V.entries V.names F.FnMut place.old.me f.old }
         ensures table { (place.new.table_id ≡ place.old.table_id) × (place.new.id ≡ place.old.id) }
-        ensures turn { HadTurn V.entries V.names F.FnMut place.old.me f.old result f.new place.new.me }
+        ensures turn { HadTurn V.entries V.names F.FnMut
+            place.old.me f.old result f.new place.new.me }
     {
         let (answer, grown) = self.work(place, f);
         self.release(place, grown);
@@ -207,9 +216,11 @@ impl<V: Turned> Turns<V> {
     // Calls f on the value that the seat holds, and tells whether the value has more entries now.
     fn work<R, F: FnMut(&mut V) -> R>(&self, place: &mut Seat<V, View>, f: &mut F) -> (R, bool)
         requires table { place.old.table_id ≡ self.now.table }
-        requires held { (value : V) × (place.old.me.1 ≡ (0, value) ∷ []) × IsCallableAt V.entries V.names F.FnMut f.old value }
+        requires held { (value : V) × (place.old.me.1 ≡ (0, value) ∷ [])
+            × IsCallableAt V.entries V.names F.FnMut f.old value }
         ensures table { (place.new.table_id ≡ place.old.table_id) × (place.new.id ≡ place.old.id) }
-        ensures worked { Worked V.entries V.names F.FnMut place.old.me f.old result.0 result.1 f.new place.new.me }
+        ensures worked { Worked V.entries V.names F.FnMut
+            place.old.me f.old result.0 result.1 f.new place.new.me }
     {
         let value = place.slot_mut(&self.table.shared, 0);
         let before = value.turns();

@@ -2,6 +2,7 @@
 use Rattle.std.specs.Prelude.{◌≡◌, ◌≢◌, ◌⊎◌, ◌<◌, ℕ, ◌+◌, Bool, false, List, [], ◌∷◌, length, take, replicate, Option, Some, None, is_none, slice_get, slice_index_or, slice_set, if◌then◌else◌}
 use Rattle.std.specs.List.{position}
 
+-- the virtual channels of a router, by port and slot
 abbrev pub Channels : Type 0 → Type 0
 Channels P = List (List (Option P))
 
@@ -41,6 +42,7 @@ pub record IsLowestFree {P : Type 0} (bank : Channels P) (port slot : ℕ) : Typ
   pub free : IsFree bank port slot
   pub least : (lower : ℕ) → lower < slot → ¬ IsFree bank port lower
 
+-- whether a slot was found, and is empty
 abbrev pub is_there_and_free : {P : Type 0} → Option (Option P) → Bool
 is_there_and_free None = false
 is_there_and_free (Some packet) = is_none packet

@@ -2,6 +2,7 @@
 use Rattle.std.specs.Prelude.{ℕ, suc, ◌+◌, ◌<◌, List, [], ◌∷◌, length, Option, Some, None, slice_index_or, slice_set}
 use Rattle.vc_bank.specs.Channels.{Channels, slots_at, packet_at, with_packet}
 
+-- the virtual channels of all routers
 abbrev pub Network : Type 0 → Type 0
 Network P = List (Channels P)
 

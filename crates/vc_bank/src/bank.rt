@@ -24,7 +24,8 @@ impl<P: Copy> Model for Bank<P> {
 
     ghost Value = { Channels P };
 
-    ghost view = { λ bank. bank.local.items ∷ bank.east.items ∷ bank.west.items ∷ bank.north.items ∷ bank.south.items ∷ [] };
+    ghost view = { λ bank. bank.local.items ∷ bank.east.items ∷ bank.west.items ∷ bank.north.items
+        ∷ bank.south.items ∷ [] };
 }
 
 impl<P: Copy> Bank<P> {
@@ -68,7 +69,8 @@ impl<P: Copy> Bank<P> {
     pub fn lowest_free(&self, port: Port) -> Option<u8>
         ensures value { result ≡ lowest_free self.now (port_number port) }
         ensures least { IfSome result (λ slot. IsLowestFree self.now (port_number port) slot) }
-        ensures none { IfNone result ((slot : ℕ) → slot < normal_slots self.now → ¬ IsFree self.now (port_number port) slot) }
+        ensures none { IfNone result ((slot : ℕ) → slot < normal_slots self.now
+            → ¬ IsFree self.now (port_number port) slot) }
     {
         first_free(self.slots(port), self.normal())
     }

@@ -17,7 +17,8 @@ pub fn empty_banks<P: Copy>(
     reserved: bool,
 ) -> Result<Vec<Bank<P>>, NoMemory>
     requires { IsFrom 1 8 normal }
-    ensures { IfOk result (λ banks. banks.items ≡ replicate routers (empty_channels normal reserved)) }
+    ensures { IfOk result (λ banks.
+        banks.items ≡ replicate routers (empty_channels normal reserved)) }
 {
     let mut banks = Vec::with_capacity(alloc, usize::from(routers))?;
     for _ in 0..routers {

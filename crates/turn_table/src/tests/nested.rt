@@ -9,7 +9,8 @@ use crate::turns::Turns;
 pub(super) fn pass(turns: &Turns<Numbers>, seat: &mut TurnSeat) -> Result<(), Busy>
     requires { seat.old.table ≡ turns.now.table }
     ensures table { seat.new.table ≡ turns.now.table }
-    ensures note { (seat.new.note.number ≡ seat.old.note.number) × (seat.new.note.own ≡ seat.old.note.own) }
+    ensures note { (seat.new.note.number ≡ seat.old.note.number)
+        × (seat.new.note.own ≡ seat.old.note.own) }
 {
     let mut leave = |numbers: &mut Numbers|
         ensures { numbers.new ≡ numbers.old }
@@ -27,13 +28,16 @@ pub(super) fn add_around(
     requires table { (seat.old.table ≡ turns.now.table) × (other.old.table ≡ turns.now.table) }
     requires first { (number - 5 ≡ seat.old.note.number) × (seat.old.note.own ≡ []) }
     ensures table { (seat.new.table ≡ turns.now.table) × (other.new.table ≡ turns.now.table) }
-    ensures other { (other.new.note.number ≡ other.old.note.number) × (other.new.note.own ≡ other.old.note.own) }
+    ensures other { (other.new.note.number ≡ other.old.note.number)
+        × (other.new.note.own ≡ other.old.note.own) }
 {
     let mut append = |numbers: &mut Numbers| -> Option<Busy>
         requires { other.now.table ≡ turns.now.table }
-        ensures numbers { (numbers.new.items.items ≡ numbers.old.items.items) ⊎ (numbers.new.items.items ≡ numbers.old.items.items ++ number ∷ []) }
+        ensures numbers { (numbers.new.items.items ≡ numbers.old.items.items)
+            ⊎ (numbers.new.items.items ≡ numbers.old.items.items ++ number ∷ []) }
         ensures table { other.exit.now.table ≡ turns.entry.now.table }
-        ensures note { (other.exit.now.note.number ≡ other.entry.now.note.number) × (other.exit.now.note.own ≡ other.entry.now.note.own) }
+        ensures note { (other.exit.now.note.number ≡ other.entry.now.note.number)
+            × (other.exit.now.note.own ≡ other.entry.now.note.own) }
     {
         let refused = pass(turns, other).err();
         numbers.add(number);

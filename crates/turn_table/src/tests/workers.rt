@@ -23,7 +23,10 @@ pub(super) fn seat_all(
     mut seats: Vec<TurnSeat>,
 ) -> Result<Vec<Worker>, AllocError>
     requires { IsNew [] 4 turns.now seats.items }
-    ensures { IfOk result (λ workers. (length workers.items ≡ 4) × All (λ worker. (worker.seat.table ≡ turns.now.table) × (worker.number - 5 ≡ worker.seat.note.number) × (worker.seat.note.own ≡ [])) workers.items) }
+    ensures { IfOk result (λ workers. (length workers.items ≡ 4)
+        × All (λ worker. (worker.seat.table ≡ turns.now.table)
+        × (worker.number - 5 ≡ worker.seat.note.number)
+        × (worker.seat.note.own ≡ [])) workers.items) }
 {
     let mut workers = Vec::with_capacity(alloc, seats.len())?;
     while let Some(seat) = seats.pop() {
@@ -36,7 +39,8 @@ pub(super) fn seat_all(
 /// Tries until the worker got the turn.
 fn take_turn<R: Wait>(rt: &R, turns: &Turns<Numbers>, worker: &mut Worker)
     requires table { worker.old.seat.table ≡ turns.now.table }
-    requires first { (worker.old.number - 5 ≡ worker.old.seat.note.number) × (worker.old.seat.note.own ≡ []) }
+    requires first { (worker.old.number - 5 ≡ worker.old.seat.note.number)
+        × (worker.old.seat.note.own ≡ []) }
     ensures { worker.new.seat.table ≡ turns.now.table }
 {
     for _ in rt.forever() {
@@ -54,7 +58,8 @@ pub(super) fn run_all<R: Threads + Wait + Sync>(
     workers: &mut [Worker],
 )
     requires some { 0 < length workers.old }
-    requires first { All (λ worker. (worker.seat.table ≡ turns.now.table) × (worker.number - 5 ≡ worker.seat.note.number) × (worker.seat.note.own ≡ [])) workers.old }
+    requires first { All (λ worker. (worker.seat.table ≡ turns.now.table)
+        × (worker.number - 5 ≡ worker.seat.note.number) × (worker.seat.note.own ≡ [])) workers.old }
     ensures count { length workers.new ≡ length workers.old }
     ensures table { All (λ worker. worker.seat.table ≡ turns.now.table) workers.new }
 {
@@ -65,7 +70,8 @@ pub(super) fn run_all<R: Threads + Wait + Sync>(
         count,
         &|_, worker: &mut Worker|
             requires table { worker.old.seat.table ≡ turns.now.table }
-            requires first { (worker.old.number - 5 ≡ worker.old.seat.note.number) × (worker.old.seat.note.own ≡ []) }
+            requires first { (worker.old.number - 5 ≡ worker.old.seat.note.number)
+                × (worker.old.seat.note.own ≡ []) }
             ensures { worker.new.seat.table ≡ turns.entry.now.table }
         { take_turn(rt, turns, worker) },
     );
@@ -78,7 +84,8 @@ pub(super) fn unseat_all(
     mut workers: Vec<Worker>,
 ) -> Result<Vec<TurnSeat>, AllocError>
     requires { All (λ worker. worker.seat.table ≡ turns.now.table) workers.items }
-    ensures { IfOk result (λ seats. (length seats.items ≡ length workers.items) × All (λ seat. seat.table ≡ turns.now.table) seats.items) }
+    ensures { IfOk result (λ seats. (length seats.items ≡ length workers.items)
+        × All (λ seat. seat.table ≡ turns.now.table) seats.items) }
 {
     let mut seats = Vec::with_capacity(alloc, workers.len())?;
     while let Some(worker) = workers.pop() {

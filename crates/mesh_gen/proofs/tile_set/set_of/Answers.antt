@@ -1,4 +1,4 @@
-use Rattle.std.proofs.Common.{◌≡◌, ◌<◌, length, sym, ◌∙◌, ap, arith, take, get_or}
+use Rattle.std.proofs.Common.{◌<◌, length, sym, ◌∙◌, ap, arith, take, get_or}
 use Rattle.std.specs.Prelude.{◌^◌, bit_or}
 use Rattle.std.proofs.lemmas.List.{take_more}
 use Rattle.mesh_gen.proofs.TileSets.{set_of-push}
