@@ -48,3 +48,4 @@ pub mod Opening
 pub mod Calls
 pub mod Deliveries
 pub mod WaitingAccesses
+pub mod NetworkEvents

@@ -4,3 +4,4 @@ pub mod InOrderUnits
 pub mod Meetings
 pub mod Parts
 pub mod WaitingAccesses
+pub mod QueuedMessages

@@ -8,11 +8,12 @@ ghost use Rattle.chip_model.specs.Units.{UnitState, Behaviour, in_order};
 ghost use Rattle.chip_model.specs.ChipState.{ChipState, opening};
 ghost use Rattle.chip_model.specs.Events.{step};
 ghost use Rattle.chip_model.specs.BehaviourLaws.{KeepsLaws};
-ghost use Rattle.chip_model.specs.ChipInvariant.{CoresInOrder, ProtocolHolds};
+ghost use Rattle.chip_model.specs.ChipInvariant.{CoresInOrder, NetworkHolds, ProtocolHolds};
 ghost use Rattle.snoop_core.specs.Requests.{OwnRequestFits};
 ghost use Rattle.chip_laws.specs.DocFits.{DocFits};
 ghost use Rattle.chip_laws.specs.Meetings.{ArrivalsFit, DeliveriesFit, NodesHold, UnitsFit, UnitsKeepShape};
 ghost use Rattle.chip_laws.specs.Parts.{WritersHold, GetsAreSupplied};
+ghost use Rattle.chip_laws.specs.QueuedMessages.{QueuesFit};
 
 /// The laws that a kind of core keeps. At run time it does nothing.
 pub fn behaviour_laws()
@@ -47,6 +48,17 @@ pub fn node_event_laws()
         → ProtocolHolds d s → slice_get s.units t ≡ Some unit
         → after_delivery (chip_of d) s.network t ≡ Some (q, net) → OwnRequestFits unit.node.tile unit.node.side q }
 {}
+
+/// The two networks of a chip, whatever its cores are: what holds of them before any event, and after every event as long as
+/// the messages in the queues fit. At run time it does nothing.
+pub fn network_event_laws()
+    ensures opened { (d : Doc) → DocFits d → NetworkHolds d (opening d) }
+    ensures kept { (b : Behaviour) (d : Doc) (s new : ChipState) (event : Event) → NetworkHolds d s → QueuesFit d s
+        → step b (chip_of d) s event ≡ Some new → NetworkHolds d new }
+{
+    net_iface::network_laws();
+    reply_net::message_laws();
+}
 
 /// In-order cores: a demand waits for the access that comes next, and accesses come in the order of the program. At run
 /// time it does nothing.

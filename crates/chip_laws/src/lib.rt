@@ -5,4 +5,4 @@ mod accesses;
 mod laws;
 
 pub use accesses::access_laws;
-pub use laws::{behaviour_laws, core_order_laws, node_event_laws, order_laws, unit_laws};
+pub use laws::{behaviour_laws, core_order_laws, network_event_laws, node_event_laws, order_laws, unit_laws};

@@ -1,31 +1,30 @@
 -- A window closes: the requests of its tiles are ordered, by the rotating priority.
-use Rattle.std.proofs.Common.{◌≡◌, ℕ, ◌+◌, ◌%◌, ◌<◌, ◌≤◌, true, cond, List, [], ◌∷◌, ◌++◌, length, drop, Some, None, refl, sym, ◌∙◌, ap, subst, inl, inr, append_assoc, append-nil, arith}
+use Rattle.std.proofs.Common.{◌≡◌, ℕ, ◌+◌, ◌%◌, ◌<◌, true, cond, List, [], ◌∷◌, ◌++◌, length, drop, Some, None, refl, sym, ◌∙◌, ap, inl, inr, append_assoc, append-nil, arith}
 use Rattle.std.specs.Prelude.{slice_get, slice_index}
 use Rattle.std.specs.List.{filter_map}
-use Rattle.std.proofs.lemmas.Bool.{cases_lt, cases_Bool, true≢false}
-use Rattle.std.proofs.lemmas.List.{map-append, get_or_past, take-append-le}
+use Rattle.std.proofs.lemmas.Bool.{cases_lt, cases_Bool}
+use Rattle.std.proofs.lemmas.List.{get_or_past}
 use Rattle.circular_buffer.specs.Buffer.{Buffer, buffer}
 use Rattle.mesh_gen.specs.declared.request.Request.{Request}
 use Rattle.mesh_gen.specs.Ports.{count_if}
 use Rattle.mesh_gen.specs.TileSet.{has_tile}
 use Rattle.mesh_gen.proofs.TileSets.{has_tile-none}
 use Rattle.vc_bank.specs.Places.{Network}
-use Rattle.order_tracker.specs.Order.{order, expansion, times}
+use Rattle.order_tracker.specs.Order.{expansion, times}
 use Rattle.chip_model.specs.declared.net_copy.NetCopy.{NetCopy}
 use Rattle.chip_model.specs.Chip.{Chip, tile_count}
-use Rattle.chip_model.specs.Windows.{Windows, window_closed}
+use Rattle.chip_model.specs.Windows.{Windows}
 use Rattle.chip_model.specs.OrderedNetwork.{sources, lowest_unordered, ordered_by_window}
-use Rattle.chip_model.specs.Bookkeeping.{AreMadeBy, count_by_tile}
-use Rattle.chip_model.specs.CopiesOwed.{times_named}
+use Rattle.chip_model.specs.Bookkeeping.{count_by_tile}
 use Rattle.chip_model.specs.NetworkFits.{requests_of}
 use Rattle.net_iface.specs.Unordered.{unordered_at, unordered_of, lowest_of, LoseLowest}
-use Rattle.net_iface.specs.Parts.{Parts, requests_of_tile, interface_of, interfaces_of, network_of, IsAccounted}
-use Rattle.net_iface.proofs.Named.{slice_get_grown, slice_get-append_right, length-requests_of, requests_of-append, count_by_tile-append}
-use Rattle.net_iface.proofs.Orders.{order-push}
+use Rattle.net_iface.specs.Parts.{Parts, requests_of_tile, interface_of, interfaces_of, network_of}
+use Rattle.net_iface.proofs.Accounts.{IsAccounted}
+use Rattle.net_iface.proofs.Named.{slice_get-append_right, length-requests_of, requests_of-append, count_by_tile-append}
 use Rattle.net_iface.proofs.Places.{item_at}
 use Rattle.net_iface.proofs.Interfaces.{as_interface, same_tiles}
 use Rattle.net_iface.proofs.Expected.{interface_at}
-use Rattle.net_iface.proofs.Priorities.{ordered_in, requests_of-round, ordered_taken, ordered_passed, sources-expansion, same_expansion}
+use Rattle.net_iface.proofs.Priorities.{ordered_in, requests_of-round, ordered_taken, ordered_passed, same_expansion}
 
 head_and_rest : (xs : List Request) (q : Request) → slice_get xs 0 ≡ Some q → q ∷ drop 1 xs ≡ xs
 head_and_rest [] q is = cc
@@ -93,31 +92,6 @@ module _ (chip : Chip) (copies : Network NetCopy) (w : Windows) (ordered : List 
             let here : count_if (has_tile w.posts t) ≡ 0 = ap count_if not_there in
             omega (arith, grows, counted, none, one, here)
       ]
-
-  sources_added : sources (ordered ++ added) ≡ order (tile_count chip) (w.closed ++ w.posts ∷ [])
-  sources_added =
-      map-append (λ (q : Request). q.source) ordered added
-      ∙ ap (λ (ss : List ℕ). ss ++ sources added) accounted.in_order
-      ∙ ap (λ (ss : List ℕ). order (tile_count chip) w.closed ++ ss) (sources-expansion (tile_count chip) (length w.closed) w.posts (lowest_of unordered) some lowest_there)
-      ∙ sym (order-push (tile_count chip) w.closed w.posts)
-
-  pub IsAccounted-close : ((t : ℕ) → t < tile_count chip → slice_index delivered t ≤ length ordered) → IsAccounted chip copies (window_closed w) (ordered ++ added) more delivered
-  IsAccounted-close within = record {
-    made = λ t inside. subst (λ (rs : List Request). AreMadeBy t rs) (sym (made_same t inside)) (accounted.made t inside);
-    posted = λ t inside has. absurd (true≢false (sym has ∙ has_tile-none t));
-    in_order = sources_added;
-    of_made = λ router port slot copy stands.
-        let of = accounted.of_made router port slot copy stands in
-        record { source = of.source; made = ap (λ (rs : List Request). slice_get rs copy.request.number) (made_same copy.request.source of.source) ∙ of.made };
-    owed = λ name t source inside.
-        let before = accounted.owed name t source inside in
-        let front = ap (times_named name) (take-append-le (slice_index delivered t) ordered added (within t inside)) in
-        let same = ap (times_named name) (made_same name.0 source) in
-        omega (arith, before, front, same);
-    reserved = λ router port copy inside stands.
-        let before = accounted.reserved router port copy inside stands in
-        record { place = before.place; request = before.request; there = slice_get_grown ordered added before.place before.request before.there; named = before.named; before = before.before };
-  }
 
   -- the interfaces are as they were
   pub interfaces_same : interfaces_of (tile_count chip) w.posts ordered unordered delivered ≡ interfaces_of (tile_count chip) 0 (ordered ++ added) more delivered

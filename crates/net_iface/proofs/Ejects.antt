@@ -9,21 +9,23 @@ use Rattle.std.proofs.lemmas.Option.{slice_get_within}
 use Rattle.mesh_gen.specs.declared.request.Request.{Request}
 use Rattle.order_tracker.specs.Tracker.{TrackerState, next_request_of}
 use Rattle.chip_model.specs.Chip.{tile_count}
-use Rattle.chip_model.specs.Copies.{Name, name_of}
-use Rattle.chip_model.specs.OrderedNetwork.{Interface, sources, with_interface, expected_at}
+use Rattle.chip_model.specs.Copies.{Name, name_of, after_serve}
+use Rattle.chip_model.specs.OrderedNetwork.{OrderedNetwork, Interface, sources, with_interface, expected_at, after_delivery}
 use Rattle.chip_model.specs.Bookkeeping.{count_by_tile}
-use Rattle.chip_model.specs.CopiesOwed.{HasCopies, OwesLess, NoneComes, ReservesNothing}
+use Rattle.chip_model.specs.CopiesOwed.{HasCopies}
 use Rattle.router_xy.specs.RequestNetwork.{RequestNetwork}
 use Rattle.chip_model.specs.NetworkFits.{requests_of}
 use Rattle.net_iface.specs.Unordered.{unordered_of}
 use Rattle.net_iface.specs.Parts.{Parts, requests_of_tile, interface_of, interfaces_of, network_of, IsFollowing, AreKept}
+use Rattle.net_iface.specs.NetworkHolds.{OrderedNetworkHolds}
 use Rattle.net_iface.specs.Trackers.{MayPass, PassesAt}
 use Rattle.net_iface.proofs.Named.{slice_get_grown, request_at, number_at}
 use Rattle.net_iface.proofs.Interfaces.{other_at}
-use Rattle.net_iface.proofs.Expected.{expects_tile, next_expected}
+use Rattle.net_iface.proofs.Expected.{interface_at, expects_tile, next_expected}
 use Rattle.net_iface.proofs.Entries.{expected_is_there}
-use Rattle.net_iface.proofs.Accounts.{made_if_on_the_way, IsAccounted-eject}
+use Rattle.net_iface.proofs.Accounts.{accounted, made_if_on_the_way}
 use Rattle.net_iface.proofs.Places.{same_some, item_at}
+use Rattle.net_iface.proofs.Steps.{after_delivery-some}
 
 -- the request that is served is that of the order
 pub is_next : (p : Parts) (t : ℕ) (name : Name) (q : Request) → AreKept p → expected_at p.chip (network_of p) t ≡ Some name → HasCopies p.routers.copies q → name_of q ≡ name
@@ -32,13 +34,13 @@ is_next p t name q kept expects stood named =
     let inside = expects_tile p t name expects in
     let entry = expected_is_there p t name kept inside expects in
     let d = slice_index p.delivered t in
-    let all = kept.accounted.made entry.request.source entry.source in
+    let all = (accounted p kept).made entry.request.source entry.source in
     let number = number_at entry.request.source d p.ordered (unordered_of p.unordered entry.request.source) entry.request all entry.there refl in
     let here : slice_get (requests_of_tile p.ordered p.unordered entry.request.source) entry.request.number ≡ Some entry.request =
     ap (slice_get (requests_of_tile p.ordered p.unordered entry.request.source)) number
     ∙ slice_get_grown (requests_of entry.request.source p.ordered) (unordered_of p.unordered entry.request.source) (count_by_tile entry.request.source (take d p.ordered)) entry.request (request_at entry.request.source p.ordered d entry.request entry.there refl)
     in
-    let made_q = (made_if_on_the_way p.chip p.routers.copies p.windows.windows p.ordered p.unordered p.delivered q kept.accounted stood).made in
+    let made_q = (made_if_on_the_way p q kept stood).made in
     let names : name_of entry.request ≡ name_of q = entry.named ∙ sym named in
     let same : entry.request ≡ q =
     same_some entry.request q (sym here ∙ ap (λ (n : Name). slice_get (requests_of_tile p.ordered p.unordered n.0) n.1) names ∙ made_q)
@@ -52,7 +54,7 @@ may_pass p t name kept expects tracker there =
     let entry = expected_is_there p t name kept inside expects in
     let d = slice_index p.delivered t in
     let next : next_request_of tracker ≡ Some name = ap (option_and_then next_request_of) (sym there) ∙ next_expected p t kept ∙ expects in
-    let number = number_at entry.request.source d p.ordered (unordered_of p.unordered entry.request.source) entry.request (kept.accounted.made entry.request.source entry.source) entry.there refl in
+    let number = number_at entry.request.source d p.ordered (unordered_of p.unordered entry.request.source) entry.request ((accounted p kept).made entry.request.source entry.source) entry.there refl in
     let low : count_by_tile entry.request.source (take d p.ordered) ≤ d =
     omega (arith, count_by-le-length (λ s. s == entry.request.source) (sources (take d p.ordered)), length-map (take d p.ordered) (λ (q : Request). q.source), length-take d p.ordered)
     in
@@ -74,10 +76,9 @@ module _ (p : Parts) (routers : RequestNetwork) (t : ℕ) (q : Request) (kept : 
   others : (u : ℕ) → u ≢ t → slice_index more u ≡ slice_index p.delivered u
   others u other = get_or-set_other p.delivered t u (slice_index p.delivered t + 1) 0 other
 
-  pub AreKept-eject : (trackers : List TrackerState) (delivered : List ℕ) → slice_get p.ordered (slice_index p.delivered t) ≡ Some q → PassesAt t p.trackers trackers → delivered ≡ more
-      → routers.grid ≡ p.routers.grid → routers.vcs ≡ p.routers.vcs → OwesLess p.chip.grid t q p.routers.copies routers.copies → NoneComes p.routers.copies routers.copies → ReservesNothing p.chip.vcs p.routers.copies routers.copies
-      → AreKept (record p { routers = routers; trackers = trackers; delivered = delivered })
-  AreKept-eject trackers delivered there passes is grid vcs owes comes reserves = subst (λ (counts : List ℕ). AreKept (record p { routers = routers; trackers = trackers; delivered = counts })) (sym is) (record {
+  pub AreKept-eject : (trackers : List TrackerState) (delivered : List ℕ) → PassesAt t p.trackers trackers → delivered ≡ more → routers.grid ≡ p.routers.grid → routers.vcs ≡ p.routers.vcs
+      → OrderedNetworkHolds p.chip (network_of (record p { routers = routers; trackers = trackers; delivered = more })) → AreKept (record p { routers = routers; trackers = trackers; delivered = delivered })
+  AreKept-eject trackers delivered passes is grid vcs holds = subst (λ (counts : List ℕ). AreKept (record p { routers = routers; trackers = trackers; delivered = counts })) (sym is) (record {
     sizes = record {
       some = kept.sizes.some;
       few = kept.sizes.few;
@@ -94,8 +95,7 @@ module _ (p : Parts) (routers : RequestNetwork) (t : ℕ) (q : Request) (kept : 
       made = kept.sizes.made;
       delivered = length-set p.delivered t (slice_index p.delivered t + 1) ∙ kept.sizes.delivered;
     };
-    accounted =
-        IsAccounted-eject p.chip p.routers.copies routers.copies p.windows.windows p.ordered p.unordered p.delivered more t q there counted others owes comes reserves kept.accounted;
+    holds = holds;
     trackers = λ u tracker found. elim (cases_eq u t) [
       | inl here ↦
           let before = item_at p.trackers t (omega (arith, kept.sizes.trackers)) in
@@ -128,3 +128,9 @@ module _ (p : Parts) (routers : RequestNetwork) (t : ℕ) (q : Request) (kept : 
       (ap (λ (k : ℕ). set (map f (range_with_len 0 n)) t (record { made = (f t).made; posted = (f t).posted; delivered = k })) (sym counted)
       ∙ other_at f n g t inside (λ u within other. ap (λ (k : ℕ). record { made = (f u).made; posted = (f u).posted; delivered = k }) (others u other))
       ∙ ap (λ (counts : List ℕ). interfaces_of n p.windows.windows.posts p.ordered p.unordered counts) (sym is))
+
+  -- the step of the definitions
+  pub ejected : (name : Name) → expected_at p.chip (network_of p) t ≡ Some name → after_serve p.routers.copies t name ≡ Some (q, routers.copies) → after_delivery p.chip (network_of p) t ≡ Some (q, network_of (record p { routers = routers; delivered = more }))
+  ejected name expects serves =
+      after_delivery-some p.chip (network_of p) t (interface_of p.windows.windows.posts p.ordered p.unordered p.delivered t) name q routers.copies (interface_at p t inside) expects serves
+      ∙ ap (λ (net : OrderedNetwork). Some (q, net)) (eject_seen p.trackers more refl)

@@ -5,18 +5,16 @@ use Rattle.std.specs.List.{AllByRecursion}
 use Rattle.std.proofs.lemmas.List.{take-append-drop, take-append-le, take-map}
 use Rattle.std.proofs.lemmas.Option.{slice_get-map, slice_get_within}
 use Rattle.mesh_gen.specs.declared.request.Request.{Request}
-use Rattle.mesh_gen.specs.declared.port.Port.{Port}
-use Rattle.mesh_gen.specs.Grid.{neighbour}
 use Rattle.order_tracker.specs.Order.{order_from, order, times, entry_at}
 use Rattle.order_tracker.proofs.Sequence.{order_from-below}
-use Rattle.chip_model.specs.Partial.{◌>>=◌}
 use Rattle.chip_model.specs.Chip.{tile_count}
 use Rattle.chip_model.specs.Copies.{Name, name_of}
-use Rattle.chip_model.specs.OrderedNetwork.{sources, expected_at, expected_at_next_hop}
+use Rattle.chip_model.specs.OrderedNetwork.{sources, expected_at}
 use Rattle.chip_model.specs.Bookkeeping.{AreMadeBy, count_by_tile}
 use Rattle.chip_model.specs.NetworkFits.{requests_of}
 use Rattle.net_iface.specs.Unordered.{unordered_of}
-use Rattle.net_iface.specs.Parts.{Parts, network_of, IsOrderedUpTo, AreKept}
+use Rattle.net_iface.specs.Parts.{Parts, network_of, AreKept}
+use Rattle.net_iface.proofs.Accounts.{accounted}
 use Rattle.net_iface.proofs.Named.{slice_get_grown, number_at}
 use Rattle.net_iface.proofs.Orders.{order_from-append}
 use Rattle.net_iface.proofs.Expected.{expected_at-some}
@@ -37,6 +35,10 @@ entry_by entries place name (Some source) found is = record { source = source; t
 
 entry_of : (entries : List ℕ) (place : ℕ) (name : Name) → entry_at entries place ≡ Some name → IsEntry entries place name
 entry_of entries place name is = entry_by entries place name (slice_get entries place) refl is
+
+-- an entry is one of those that there are
+pub entry_within : (entries : List ℕ) (place : ℕ) (name : Name) → entry_at entries place ≡ Some name → place < length entries
+entry_within entries place name is = let entry = entry_of entries place name is in slice_get_within entries place entry.source entry.there
 
 all_at : (P : ℕ → Type 0) (xs : List ℕ) (k x : ℕ) → AllByRecursion P xs → slice_get xs k ≡ Some x → P x
 all_at P [] k x all is = cc
@@ -96,13 +98,5 @@ entry_there n count place ordered closed name made some in_order all is =
 pub expected_is_there : (p : Parts) (t : ℕ) (name : Name) → AreKept p → t < tile_count p.chip → expected_at p.chip (network_of p) t ≡ Some name
     → IsThere (tile_count p.chip) p.ordered (slice_index p.delivered t) name
 expected_is_there p t name kept inside is =
-    entry_there (tile_count p.chip) (slice_index p.windows.windows.taken t) (slice_index p.delivered t) p.ordered p.windows.windows.closed name (unordered_of p.unordered) kept.sizes.some kept.accounted.in_order kept.accounted.made
+    entry_there (tile_count p.chip) (slice_index p.windows.windows.taken t) (slice_index p.delivered t) p.ordered p.windows.windows.closed name (unordered_of p.unordered) kept.sizes.some (accounted p kept).in_order (accounted p kept).made
     (sym (expected_at-some p t kept.sizes inside) ∙ is)
-
--- what the tile on a side expects
-pub expected_at_next_hop_is_there : (p : Parts) (r : ℕ) (out : Port) (expected : Option Name) → AreKept p → expected ≡ expected_at_next_hop p.chip (network_of p) r out
-    → (router : ℕ) (name : Name) → router < tile_count p.chip → neighbour p.chip.grid r out ≡ Some router → expected ≡ Some name → IsOrderedUpTo p.ordered (slice_index p.delivered router) name
-expected_at_next_hop_is_there p r out expected kept behind router name inside next is =
-    let here : expected_at p.chip (network_of p) router ≡ Some name = sym (ap (λ (o : Option ℕ). o >>= expected_at p.chip (network_of p)) next) ∙ sym behind ∙ is in
-    let found = expected_is_there p router name kept inside here in
-    record { place = slice_index p.delivered router; request = found.request; there = found.there; named = found.named; before = omega arith }

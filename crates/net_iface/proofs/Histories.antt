@@ -1,8 +1,8 @@
 -- What tiles have delivered, over lists of calls.
-use Rattle.std.proofs.Common.{◌≡◌, ◌≢◌, ℕ, ◌+◌, ◌<◌, Bool, cond, ◌==◌, List, [], ◌∷◌, ◌++◌, take, drop, map, replicate, Option, Some, refl, sym, ◌∙◌, ap, subst, arith, append-nil, length-set}
+use Rattle.std.proofs.Common.{◌≡◌, ◌≢◌, ℕ, ◌+◌, ◌<◌, Bool, cond, ◌==◌, List, [], ◌∷◌, ◌++◌, take, map, replicate, Some, refl, sym, ◌∙◌, ap, subst, arith, append-nil, length-set}
 use Rattle.std.specs.Prelude.{slice_get, slice_index, filter, option_map}
 use Rattle.std.proofs.lemmas.Bool.{ne_eqb, eq-eqb}
-use Rattle.std.proofs.lemmas.List.{length-replicate, take_more, take-append-le, map-append, take-append-drop, get_or-replicate}
+use Rattle.std.proofs.lemmas.List.{length-replicate, take_more, take-append-le, map-append, get_or-replicate}
 use Rattle.std.proofs.lemmas.List.Elements.{filter-append}
 use Rattle.std.proofs.lemmas.Option.{slice_get_within, get_or_from_slice_get, slice_get-map}
 use Rattle.mesh_gen.specs.declared.request.Request.{Request}
@@ -11,24 +11,19 @@ use Rattle.mesh_gen.specs.Routes.{HasTiles}
 use Rattle.mesh_gen.proofs.TileSets.{has_tile-none}
 use Rattle.mesh_gen.proofs.OneTile.{product_positive}
 use Rattle.vc_bank.specs.Places.{Network}
-use Rattle.order_tracker.specs.Order.{order, entry_at}
 use Rattle.chip_model.specs.declared.net_copy.NetCopy.{NetCopy}
-use Rattle.chip_model.specs.Partial.{◌>>=◌}
 use Rattle.chip_model.specs.Chip.{Chip, tile_count}
-use Rattle.chip_model.specs.Copies.{Name, name_of, after_serve}
+use Rattle.chip_model.specs.Copies.{Name, after_serve}
 use Rattle.chip_model.specs.OrderedNetwork.{OrderedNetwork, Interface, with_interface, expected_at, after_delivery, after_inject, after_request_post, after_network_tick, after_vector_take, after_copy_hop}
-use Rattle.chip_model.specs.Bookkeeping.{AreMadeBy, count_by_tile}
 use Rattle.chip_model.specs.CopiesOwed.{HasCopies}
 use Rattle.router_xy.specs.CopySteps.{Serves}
-use Rattle.chip_model.specs.NetworkFits.{requests_of}
 use Rattle.net_iface.specs.OrderedNet.{delivered_counts}
 use Rattle.net_iface.specs.OneOrder.{IsOneOrder}
 use Rattle.net_iface.specs.NetworkRuns.{NetworkCall, Inject, Post, Tick, Take, Hop, Eject, History, opening_history, called, history_of, deliveries_at, DeliverPrefixes}
 use Rattle.net_iface.proofs.Binds.{bind_eq, made}
-use Rattle.net_iface.proofs.Laws.{NothingStands}
-use Rattle.net_iface.proofs.Named.{slice_get_grown, request_at}
-use Rattle.net_iface.proofs.Places.{same_some, item_at}
-use Rattle.net_iface.proofs.Entries.{entry_there}
+use Rattle.net_iface.proofs.LawsOfParts.{NothingStands}
+use Rattle.net_iface.proofs.Places.{item_at}
+use Rattle.net_iface.proofs.NextRequests.{expects_entry, next_is}
 use Rattle.net_iface.proofs.Accords.{Agrees, Accords, Keeps, EntersAlone, HopsWithNone, one_order_of, other_interface, made_kept, keeps-inject, keeps-post, keeps-take, keeps-hop}
 use Rattle.net_iface.proofs.Ticks.{keeps-tick}
 
@@ -42,36 +37,6 @@ pub record IsHistory (chip : Chip) (h : History) : Type 0 where
 
 -- ---- a tile delivers
 
-module _ (chip : Chip) (net : OrderedNetwork) (accords : Accords chip net) (some : 0 < tile_count chip) where
-  -- a request that is on the way and has the name of the next one is the next one
-  next_is : (t : ℕ) (interface : Interface) (taken : ℕ) (name : Name) (q : Request) → slice_get net.interfaces t ≡ Some interface
-      → entry_at (order (tile_count chip) (take taken net.windows.closed)) interface.delivered ≡ Some name → HasCopies net.copies q → name_of q ≡ name → slice_get net.ordered interface.delivered ≡ Some q
-  next_is t interface taken name q there entry stood named =
-      let whole = one_order_of chip net accords in
-      let next = entry_there (tile_count chip) taken interface.delivered net.ordered net.windows.closed name (λ u. []) some accords.in_order
-      (λ u inside. subst (λ (rs : List Request). AreMadeBy u rs) (sym (append-nil (requests_of u net.ordered))) (whole.numbered u inside)) entry
-      in
-      let r = next.request in
-      let from = item_at net.interfaces r.source (omega (arith, next.source, accords.tiles)) in
-      let agrees = accords.agree r.source from.item from.there in
-      let count = count_by_tile r.source net.ordered in
-      let numbered = (whole.numbered r.source next.source (count_by_tile r.source (take interface.delivered net.ordered)) r (request_at r.source net.ordered interface.delivered r next.there refl)).1 in
-      let in_front : slice_get (take count from.item.made) r.number ≡ Some r =
-      ap (λ (rs : List Request). slice_get rs r.number) (sym agrees.in_place) ∙ ap (slice_get (requests_of r.source net.ordered)) numbered
-      ∙ request_at r.source net.ordered interface.delivered r next.there refl
-      in
-      let here : slice_get from.item.made r.number ≡ Some r =
-      ap (λ (rs : List Request). slice_get rs r.number) (sym (take-append-drop count from.item.made)) ∙ slice_get_grown (take count from.item.made) (drop count from.item.made) r.number r in_front
-      in
-      let mine = accords.made q stood in
-      let names : name_of r ≡ name_of q = next.named ∙ sym named in
-      let source : r.source ≡ q.source = ap (λ (n : Name). n.0) names in
-      let same_interface : from.item ≡ mine.interface = same_some from.item mine.interface (sym from.there ∙ ap (slice_get net.interfaces) source ∙ mine.source) in
-      let same : r ≡ q =
-      same_some r q (sym here ∙ ap (λ (i : Interface). slice_get i.made r.number) same_interface ∙ ap (slice_get mine.interface.made) (ap (λ (n : Name). n.1) names) ∙ mine.made)
-      in
-      next.there ∙ ap Some same
-
 -- what a delivery leaves
 pub record IsDelivery (chip : Chip) (old new : OrderedNetwork) (t : ℕ) (q : Request) : Type 0 where
   pub was : Interface
@@ -81,8 +46,8 @@ pub record IsDelivery (chip : Chip) (old new : OrderedNetwork) (t : ℕ) (q : Re
   pub comes : (r : Request) → HasCopies copies r → HasCopies old.copies r
   pub is : new ≡ with_interface (record old { copies = copies }) t (record was { delivered = was.delivered + 1 })
 
-delivery_of : (chip : Chip) (old new : OrderedNetwork) (t : ℕ) (q : Request) → Accords chip old → 0 < tile_count chip → ServesNamed → after_delivery chip old t ≡ Some (q, new) → IsDelivery chip old new t q
-unfolding after_delivery expected_at
+pub delivery_of : (chip : Chip) (old new : OrderedNetwork) (t : ℕ) (q : Request) → Accords chip old → 0 < tile_count chip → ServesNamed → after_delivery chip old t ≡ Some (q, new) → IsDelivery chip old new t q
+unfolding after_delivery
 delivery_of chip old new t q accords some serves is =
     bind_eq P (slice_get old.interfaces t) _ (λ interface there last done. bind_eq P (expected_at chip old t) _ (λ name expects last done. bind_eq P (after_serve old.copies t name) _
     (λ out serve last is. made P (out.0, with_interface (record old { copies = out.1 }) t (record interface { delivered = interface.delivered + 1 })) last (found interface there name expects out serve) is)
@@ -91,28 +56,21 @@ delivery_of chip old new t q accords some serves is =
     P : Request × OrderedNetwork → Type 0
     P out = IsDelivery chip old out.1 t out.0
 
-    entry : (interface : Interface) → slice_get old.interfaces t ≡ Some interface → (name : Name) → expected_at chip old t ≡ Some name
-        → (taken : ℕ) × (entry_at (order (tile_count chip) (take taken old.windows.closed)) interface.delivered ≡ Some name)
-    entry interface there name expects =
-        bind_eq {Y = Name} (λ name. (taken : ℕ) × (entry_at (order (tile_count chip) (take taken old.windows.closed)) interface.delivered ≡ Some name)) (slice_get old.windows.taken t) _
-        (λ taken counted n found. (taken, found)) name
-        (sym (ap (λ (o : Option Interface). o >>= (λ i. slice_get old.windows.taken t >>= (λ taken. entry_at (order (tile_count chip) (take taken old.windows.closed)) i.delivered))) there) ∙ expects)
-
     found : (interface : Interface) → slice_get old.interfaces t ≡ Some interface → (name : Name) → expected_at chip old t ≡ Some name → (out : Request × Network NetCopy) → after_serve old.copies t name ≡ Some out
         → IsDelivery chip old (with_interface (record old { copies = out.1 }) t (record interface { delivered = interface.delivered + 1 })) t out.0
     found interface there name expects out serve =
         let step = serves old.copies out.1 t name out.0 serve in
-        let next = entry interface there name expects in
+        let next = expects_entry chip old t interface name there expects in
         record {
           was = interface;
           there = there;
-          next = next_is chip old accords some t interface next.0 name out.0 there next.1 step.stood step.named;
+          next = next_is chip old accords some interface.delivered next.taken name out.0 next.entry step.stood step.named;
           copies = out.1;
           comes = step.none_comes;
           is = refl;
         }
 
-still_accords : (chip : Chip) (old new : OrderedNetwork) (t : ℕ) (q : Request) → Accords chip old → IsDelivery chip old new t q → Accords chip new
+pub still_accords : (chip : Chip) (old new : OrderedNetwork) (t : ℕ) (q : Request) → Accords chip old → IsDelivery chip old new t q → Accords chip new
 still_accords chip old new t q accords d =
     let now : Interface = record d.was { delivered = d.was.delivered + 1 } in
     let agrees = accords.agree t d.was d.there in
@@ -203,7 +161,7 @@ module _ (chip : Chip) (some : 0 < tile_count chip) (enters : EntersAlone) (hops
 abbrev idle : Interface
 idle = record { made = []; posted = 0; delivered = 0 }
 
-opening_is : (chip : Chip) → NothingStands → IsHistory chip (opening_history chip)
+pub opening_is : (chip : Chip) → NothingStands → IsHistory chip (opening_history chip)
 opening_is chip opened = record {
   accords = record {
     tiles = length-replicate (tile_count chip) idle;

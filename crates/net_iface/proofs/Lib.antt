@@ -10,7 +10,7 @@ pub mod Injects
 pub mod InsideParts
 pub mod Interfaces
 pub mod Kept
-pub mod Laws
+pub mod LawsOfParts
 pub mod Named
 pub mod OneOrders
 pub mod Accords
@@ -27,3 +27,9 @@ pub mod Priorities
 pub mod Views
 pub mod Binds
 pub mod Moving
+pub mod StepParts
+pub mod OwedKept
+pub mod NetworkKept
+pub mod TookKept
+pub mod NetworkLaws
+pub mod NextRequests

@@ -1,8 +1,7 @@
 -- The network before any step.
-use Rattle.std.proofs.Common.{◌≡◌, ℕ, ◌+◌, ◌^◌, ◌<◌, ◌≤◌, List, [], length, take, map, replicate, Some, refl, sym, ◌∙◌, ap, subst, arith}
-use Rattle.std.specs.Prelude.{slice_get, slice_index}
+use Rattle.std.proofs.Common.{◌≡◌, ℕ, ◌+◌, ◌^◌, ◌<◌, ◌≤◌, List, [], length, map, replicate, refl, sym, ◌∙◌, ap, subst, arith}
+use Rattle.std.specs.Prelude.{slice_index}
 use Rattle.std.specs.List.{AllByRecursion, range_with_len}
-use Rattle.std.proofs.lemmas.Bool.{true≢false}
 use Rattle.std.proofs.lemmas.List.{length-replicate, get_or-replicate}
 use Rattle.std.proofs.lemmas.List.FromFn.{fill_by_all}
 use Rattle.std.proofs.lemmas.List.Elements.{All-get_or}
@@ -12,8 +11,6 @@ use Rattle.mesh_gen.specs.declared.request.Request.{Request}
 use Rattle.mesh_gen.specs.Limits.{most_tiles}
 use Rattle.mesh_gen.specs.Ports.{count_if}
 use Rattle.mesh_gen.specs.TileSet.{has_tile}
-use Rattle.vc_bank.specs.Places.{at}
-use Rattle.chip_model.specs.declared.net_copy.NetCopy.{NetCopy}
 use Rattle.mesh_gen.proofs.TileSets.{has_tile-none}
 use Rattle.order_tracker.specs.Tracker.{TrackerState, IsWindow}
 use Rattle.chip_model.specs.Chip.{Chip, tile_count}
@@ -21,12 +18,12 @@ use Rattle.chip_model.specs.Windows.{opening_windows}
 use Rattle.chip_model.specs.Copies.{no_copies}
 use Rattle.chip_model.specs.OrderedNetwork.{Interface, opening_network}
 use Rattle.chip_model.specs.Bookkeeping.{count_by_tile}
-use Rattle.chip_model.specs.CopiesOwed.{channel_count, times_named}
-use Rattle.net_iface.proofs.Laws.{NothingStands, NothingIsOwed}
+use Rattle.chip_model.specs.CopiesOwed.{channel_count}
 use Rattle.net_iface.proofs.Interfaces.{as_interface}
 use Rattle.window_core.specs.Windows.{opening_state}
 use Rattle.net_iface.specs.Unordered.{unordered_at}
-use Rattle.net_iface.specs.Parts.{Parts, requests_of_tile, interface_of, network_of, IsAccounted, IsFollowing, AreKept}
+use Rattle.net_iface.specs.NetworkHolds.{OrderedNetworkHolds}
+use Rattle.net_iface.specs.Parts.{Parts, requests_of_tile, interface_of, network_of, IsFollowing, AreKept}
 use Rattle.net_iface.specs.Trackers.{IsUnused, AreUnused}
 
 -- the parts of a chip's network that has done nothing
@@ -43,29 +40,12 @@ opening_parts chip room trackers = record {
   room = room;
 }
 
-module _ (chip : Chip) (room : ℕ) (trackers : List TrackerState) (some : 0 < tile_count chip) (opened : NothingStands) (absent : NothingIsOwed) where
-  nothing_stands : (router port slot : ℕ) (copy : NetCopy) → at (no_copies chip.grid chip.vcs) router port slot ≡ Some copy → ⊥
-  nothing_stands router port slot copy stands = let none = opened chip.grid chip.vcs router port slot in cc
-
+module _ (chip : Chip) (room : ℕ) (trackers : List TrackerState) (some : 0 < tile_count chip) where
   empty_list : (t : ℕ) → t < tile_count chip → unordered_at (opening_parts chip room trackers).unordered t ≡ buffer [] (channel_count chip)
   empty_list t inside = get_or-replicate (tile_count chip) t (buffer [] (channel_count chip)) (buffer [] 0) inside
 
   nothing_made : (t : ℕ) → t < tile_count chip → requests_of_tile [] (opening_parts chip room trackers).unordered t ≡ []
   nothing_made t inside = ap (λ (list : Buffer Request). list.items) (empty_list t inside)
-
-  accounted : IsAccounted chip (no_copies chip.grid chip.vcs) (opening_windows (tile_count chip)) [] (opening_parts chip room trackers).unordered (opening_parts chip room trackers).delivered
-  accounted = record {
-    made = λ t inside n q there. let none : slice_get {X = Request} [] n ≡ Some q = ap (λ (rs : List Request). slice_get rs n) (sym (nothing_made t inside)) ∙ there in cc;
-    posted = λ t inside has. absurd (true≢false (sym has ∙ has_tile-none t));
-    in_order = refl;
-    of_made = λ router port slot copy stands. absurd (nothing_stands router port slot copy stands);
-    owed = λ name t source inside.
-        let none = absent chip.grid (no_copies chip.grid chip.vcs) name t (λ r p slot copy stands. absurd (nothing_stands r p slot copy stands)) in
-        let front : times_named name (take (slice_index (replicate (tile_count chip) 0) t) []) ≡ 0 = ap (λ (k : ℕ). times_named name (take k [])) (get_or-replicate (tile_count chip) t 0 0 inside) in
-        let made : times_named name (requests_of_tile [] (opening_parts chip room trackers).unordered name.0) ≡ 0 = ap (times_named name) (nothing_made name.0 source) in
-        omega (arith, none, front, made);
-    reserved = λ router port copy inside stands. absurd (nothing_stands router port chip.vcs copy stands);
-  }
 
   following : (t : ℕ) (tracker : TrackerState) → t < tile_count chip → IsUnused (tile_count chip) (channel_count chip) tracker → IsFollowing chip (opening_windows (tile_count chip)) (opening_parts chip room trackers).delivered t tracker
   following t tracker inside unused =
@@ -76,34 +56,6 @@ module _ (chip : Chip) (room : ℕ) (trackers : List TrackerState) (some : 0 < t
         sets = subst (λ (windows : List ℕ). AllByRecursion (IsWindow (tile_count chip)) windows) (sym unused.new.windows_is) tt;
         follows = rw zero_is unused.follows;
       }
-
-  pub AreKept-opening_state : tile_count chip ≤ most_tiles → room < 2 ^ 31 → AreUnused (tile_count chip) (channel_count chip) trackers → AreKept (opening_parts chip room trackers)
-  AreKept-opening_state few small unused = record {
-    sizes = record {
-      some = some;
-      few = few;
-      grid = refl;
-      vcs = refl;
-      windows_grid = refl;
-      ticks = refl;
-      windows_room = refl;
-      small = small;
-      within = omega arith;
-      taken = length-replicate (tile_count chip) 0;
-      trackers = unused.count;
-      unordered = length-replicate (tile_count chip) (buffer [] (channel_count chip));
-      made = length-replicate (tile_count chip) 0;
-      delivered = length-replicate (tile_count chip) 0;
-    };
-    accounted = accounted;
-    trackers = λ t tracker there.
-        let within = slice_get_within trackers t tracker there in
-        let inside : t < tile_count chip = omega (arith, within, unused.count) in
-        following t tracker inside
-        (subst (λ (s : TrackerState). IsUnused (tile_count chip) (channel_count chip) s) (get_or_from_slice_get trackers t tracker tracker there) (All-get_or (IsUnused (tile_count chip) (channel_count chip)) trackers t tracker within unused.each));
-    capacities = λ t inside. ap (λ (list : Buffer Request). list.capacity) (empty_list t inside);
-    counts = λ t inside. get_or-replicate (tile_count chip) t 0 0 inside ∙ ap length (sym (nothing_made t inside));
-  }
 
   pub opening_seen : network_of (opening_parts chip room trackers) ≡ opening_network chip
   opening_seen =
@@ -123,3 +75,31 @@ module _ (chip : Chip) (room : ℕ) (trackers : List TrackerState) (some : 0 < t
         where
           posted : (t : ℕ) → 0 ≡ count_by_tile t [] + count_if (has_tile 0 t)
           posted t = rw (has_tile-none t) (omega arith)
+
+  pub AreKept-opening_state : OrderedNetworkHolds chip (opening_network chip) → tile_count chip ≤ most_tiles → room < 2 ^ 31 → AreUnused (tile_count chip) (channel_count chip) trackers → AreKept (opening_parts chip room trackers)
+  AreKept-opening_state holds few small unused = record {
+    sizes = record {
+      some = some;
+      few = few;
+      grid = refl;
+      vcs = refl;
+      windows_grid = refl;
+      ticks = refl;
+      windows_room = refl;
+      small = small;
+      within = omega arith;
+      taken = length-replicate (tile_count chip) 0;
+      trackers = unused.count;
+      unordered = length-replicate (tile_count chip) (buffer [] (channel_count chip));
+      made = length-replicate (tile_count chip) 0;
+      delivered = length-replicate (tile_count chip) 0;
+    };
+    holds = subst (OrderedNetworkHolds chip) (sym opening_seen) holds;
+    trackers = λ t tracker there.
+        let within = slice_get_within trackers t tracker there in
+        let inside : t < tile_count chip = omega (arith, within, unused.count) in
+        following t tracker inside
+        (subst (λ (s : TrackerState). IsUnused (tile_count chip) (channel_count chip) s) (get_or_from_slice_get trackers t tracker tracker there) (All-get_or (IsUnused (tile_count chip) (channel_count chip)) trackers t tracker within unused.each));
+    capacities = λ t inside. ap (λ (list : Buffer Request). list.capacity) (empty_list t inside);
+    counts = λ t inside. get_or-replicate (tile_count chip) t 0 0 inside ∙ ap length (sym (nothing_made t inside));
+  }

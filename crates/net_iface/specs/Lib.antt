@@ -5,3 +5,5 @@ pub mod Parts
 pub mod Trackers
 pub mod Unordered
 pub mod Moves
+pub mod NetworkSteps
+pub mod NetworkHolds

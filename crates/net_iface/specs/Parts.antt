@@ -1,24 +1,21 @@
 -- The parts of an ordered network, what they stand for, and what is kept of them.
-use Rattle.std.specs.Prelude.{◌≡◌, ℕ, ◌+◌, ◌^◌, ◌<◌, ◌≤◌, true, List, ◌++◌, length, map, take, Some, slice_get, slice_index, if◌then◌else◌}
+use Rattle.std.specs.Prelude.{◌≡◌, ℕ, ◌+◌, ◌^◌, ◌<◌, ◌≤◌, List, ◌++◌, length, map, take, Some, slice_get, slice_index, if◌then◌else◌}
 use Rattle.std.specs.List.{AllByRecursion, range_with_len}
 use Rattle.circular_buffer.specs.Buffer.{Buffer}
 use Rattle.mesh_gen.specs.declared.request.Request.{Request}
 use Rattle.mesh_gen.specs.Limits.{most_tiles}
 use Rattle.mesh_gen.specs.TileSet.{has_tile}
-use Rattle.vc_bank.specs.Places.{Network, at}
-use Rattle.order_tracker.specs.Order.{order}
 use Rattle.order_tracker.specs.Tracker.{TrackerState, IsWindow, Follows}
-use Rattle.chip_model.specs.declared.net_copy.NetCopy.{NetCopy}
 use Rattle.chip_model.specs.Chip.{Chip, tile_count}
 use Rattle.chip_model.specs.Windows.{Windows}
-use Rattle.chip_model.specs.Copies.{Name, name_of}
-use Rattle.chip_model.specs.OrderedNetwork.{OrderedNetwork, Interface, sources}
-use Rattle.chip_model.specs.Bookkeeping.{AreMadeBy, count_by_tile}
-use Rattle.chip_model.specs.CopiesOwed.{owing, times_named, channel_count}
+use Rattle.chip_model.specs.OrderedNetwork.{OrderedNetwork, Interface}
+use Rattle.chip_model.specs.Bookkeeping.{count_by_tile}
+use Rattle.chip_model.specs.CopiesOwed.{channel_count}
 use Rattle.window_core.specs.Windows.{WindowsState}
 use Rattle.router_xy.specs.RequestNetwork.{RequestNetwork}
 use Rattle.chip_model.specs.NetworkFits.{requests_of}
 use Rattle.net_iface.specs.OrderedNet.{NetworkState}
+use Rattle.net_iface.specs.NetworkHolds.{OrderedNetworkHolds}
 use Rattle.net_iface.specs.Unordered.{unordered_at, unordered_of}
 
 -- the chip, its routers and windows; of each tile its tracker, the requests that are not ordered yet, how many requests it
@@ -84,34 +81,10 @@ pub record IsFollowing (chip : Chip) (w : Windows) (delivered : List ℕ) (t : �
   pub sets : AllByRecursion (IsWindow (tile_count chip)) tracker.windows
   pub follows : Follows (take (slice_index w.taken t) w.closed) (slice_index delivered t) tracker
 
--- a request with this name stands in the order, at this place or before
-pub record IsOrderedUpTo (ordered : List Request) (last : ℕ) (name : Name) : Type 0 where
-  pub place : ℕ
-  pub request : Request
-  pub there : slice_get ordered place ≡ Some request
-  pub named : name_of request ≡ name
-  pub before : place ≤ last
-
--- a copy is of a request that its source made
-pub record IsOfMade (tiles : ℕ) (ordered : List Request) (unordered : List (Buffer Request)) (q : Request) : Type 0 where
-  pub source : q.source < tiles
-  pub made : slice_get (requests_of_tile ordered unordered q.source) q.number ≡ Some q
-
--- what holds of the requests that were made, are ordered, and were delivered
-pub record IsAccounted (chip : Chip) (copies : Network NetCopy) (w : Windows) (ordered : List Request) (unordered : List (Buffer Request)) (delivered : List ℕ) : Type 0 where
-  pub made : (t : ℕ) → t < tile_count chip → AreMadeBy t (requests_of_tile ordered unordered t)
-  pub posted : (t : ℕ) → t < tile_count chip → has_tile w.posts t ≡ true → 0 < length (unordered_of unordered t)
-  pub in_order : sources ordered ≡ order (tile_count chip) w.closed
-  pub of_made : (router port slot : ℕ) (copy : NetCopy) → at copies router port slot ≡ Some copy → IsOfMade (tile_count chip) ordered unordered copy.request
-  pub owed : (name : Name) (t : ℕ) → name.0 < tile_count chip → t < tile_count chip →
-      owing chip.grid copies name t + times_named name (take (slice_index delivered t) ordered) ≡ times_named name (requests_of_tile ordered unordered name.0)
-  pub reserved : (router port : ℕ) (copy : NetCopy) → router < tile_count chip → at copies router port chip.vcs ≡ Some copy →
-      IsOrderedUpTo ordered (slice_index delivered router) (name_of copy.request)
-
 -- what every call keeps
 pub record AreKept (p : Parts) : Type 0 where
   pub sizes : AreSized p
-  pub accounted : IsAccounted p.chip p.routers.copies p.windows.windows p.ordered p.unordered p.delivered
+  pub holds : OrderedNetworkHolds p.chip (network_of p)
   pub trackers : (t : ℕ) (tracker : TrackerState) → slice_get p.trackers t ≡ Some tracker → IsFollowing p.chip p.windows.windows p.delivered t tracker
   pub capacities : (t : ℕ) → t < tile_count p.chip → (unordered_at p.unordered t).capacity ≡ channel_count p.chip
   pub counts : (t : ℕ) → t < tile_count p.chip → slice_index p.made t ≡ length (requests_of_tile p.ordered p.unordered t)

@@ -3,9 +3,11 @@
 #![tactic(auto)]
 
 mod deliveries;
+mod laws;
 mod ordered_net;
 mod requests;
 mod trackers;
 
 pub use deliveries::delivery_laws;
+pub use laws::{network_laws, part_laws};
 pub use ordered_net::OrderedNet;

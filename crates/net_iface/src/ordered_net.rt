@@ -2,13 +2,13 @@ ghost use Rattle.std.specs.Prelude.{◌≡◌, ◌+◌, ◌-◌, ◌^◌, ◌<�
 ghost use Rattle.std.specs.Bool.{OnTrue};
 ghost use Rattle.mesh_gen.specs.Limits.{IsFrom, most_tiles};
 ghost use Rattle.chip_model.specs.Chip.{chip_of_mesh, tile_count};
-ghost use Rattle.chip_model.specs.NetworkShape.{HasChannels, WindowsFit};
 ghost use Rattle.chip_model.specs.OrderedNetwork.{Interface, next_request, after_inject, after_request_post, after_network_tick, after_vector_take, expected_at, expected_at_next_hop, after_copy_hop, after_delivery};
 ghost use Rattle.chip_model.specs.NetworkFits.{NetworkFits};
 ghost use Rattle.net_iface.specs.OrderedNet.{opening_state, SameSizes, delivered_counts, delivered_by, FewAreLeft};
 ghost use Rattle.net_iface.specs.OneOrder.{IsOneOrder};
 ghost use Rattle.net_iface.specs.Moves.{moves_done, most_moves};
 
+use crate::laws::network_laws;
 use crate::requests::{add, empty_lists, is_none_left, order_window};
 use crate::trackers::{expected_by, new_trackers, pass_over, take_in};
 use circular_buffer::HeapCircularBuffer;
@@ -78,8 +78,7 @@ impl OrderedNet {
         requires { room < 2 ^ 31 }
         ensures { IfOk result (λ net. net ≡ opening_state (chip_of_mesh mesh.now) room) }
     {
-        owed_laws();
-        step_laws();
+        network_laws();
         let tiles = usize::from(mesh.tiles());
         Ok(OrderedNet {
             mesh: mesh.copy(alloc)?,
@@ -194,6 +193,7 @@ impl OrderedNet {
         // What these tell shows that the list of the tile has room.
         self.routers.tiles();
         owed_laws();
+        network_laws();
         self.made[usize::from(t)] += 1;
         add(&mut self.unordered, q);
         Ok(q)
@@ -207,6 +207,7 @@ impl OrderedNet {
         ensures kept { OnErr result (self.new ≡ self.old) }
         ensures sizes { SameSizes self.old self.new }
     {
+        network_laws();
         if is_none_left(&self.unordered, t) {
             return Err(NotEnabled);
         }
@@ -224,6 +225,7 @@ impl OrderedNet {
         ensures kept { OnErr result (self.new ≡ self.old) }
         ensures sizes { SameSizes self.old self.new }
     {
+        network_laws();
         let number = self.closed_count();
         let tiles = self.mesh.tiles();
         match self.windows.tick() {
@@ -254,6 +256,7 @@ impl OrderedNet {
         self.closed_count();
         self.routers.tiles();
         owed_laws();
+        network_laws();
         match self.windows.take(t) {
             Ok(vector) => {
                 take_in(&mut self.trackers, t, vector);
@@ -272,6 +275,7 @@ impl OrderedNet {
         ensures kept { OnErr result (self.new ≡ self.old) }
         ensures sizes { SameSizes self.old self.new }
     {
+        network_laws();
         let expected = self.expected_at_next_hop(r, out);
         self.routers.hop(r, port, slot, out, expected)?;
         Ok(())
@@ -288,6 +292,7 @@ impl OrderedNet {
         ensures sizes { SameSizes self.old self.new }
     {
         step_laws();
+        network_laws();
         let Some(name) = self.expected(t) else {
             return Err(NotEnabled);
         };
@@ -389,9 +394,7 @@ impl OrderedNet {
     pub fn closed_count(&self) -> u64
         ensures count { result ≡ length self.now.network.windows.closed }
         ensures few { result ≤ length self.now.network.ordered }
-        ensures fit { WindowsFit self.now.chip self.now.network.windows }
     {
-        self.windows.phase();
         self.windows.closed().len() as u64
     }
 }

@@ -60,6 +60,11 @@ received_is net r port slot out made =
     let both = when_some {X = Msg × Network Msg} (msg.to == r) (msg, put net r (port_number port) slot None) out rest in
     subst (λ (out : Msg × Network Msg). IsReceived net out.1 r port slot out.0) both.1 (record { stood = stands; here = eqb-true msg.to r both.0; left = refl }))
 
+pub total-after_data_eject : (w : Msg → ℕ) (net new : Network Msg) (r : ℕ) (port : Port) (slot : ℕ) (msg : Msg) → after_data_eject net r port slot ≡ Some (msg, new) → total w new + w msg ≡ total w net
+total-after_data_eject w net new r port slot msg made =
+    let took = received_is net r port slot (msg, new) made in
+    ap (λ (net : Network Msg). total w net + w msg) took.left ∙ total-take w net r (port_number port) slot msg took.stood
+
 -- ---- the balance over calls
 abbrev pub Nearer : Type 0
 Nearer = (g : Grid) (dest r n : ℕ) → HasTiles g → neighbour g r (route g r dest) ≡ Some n → distance g r dest ≡ distance g n dest + 1

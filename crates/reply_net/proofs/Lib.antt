@@ -2,3 +2,4 @@ pub mod Steps
 pub mod Sound
 pub mod Empty
 pub mod Accounts
+pub mod MessagesKept

@@ -1,7 +1,8 @@
 -- What stands in the channels after a message was put into a free one, or taken out.
-use Rattle.std.proofs.Common.{◌≡◌, ◌≢◌, ℕ, zero, suc, ◌+◌, ◌*◌, ◌<◌, ◌≤◌, false, refl, sym, ◌∙◌, ap, subst, arith, inl, ⊎_elim, Option, Some, None, List, [], ◌∷◌, length, length-set, get_or, mul-le-mul_right, mul-le-mul}
+use Rattle.std.proofs.Common.{◌≡◌, ◌≢◌, ℕ, zero, suc, ◌+◌, ◌*◌, ◌<◌, ◌≤◌, false, refl, sym, ◌∙◌, ap, subst, arith, inl, ⊎_elim, Option, Some, None, List, [], ◌∷◌, length, mul-le-mul_right, mul-le-mul}
 use Rattle.std.specs.Prelude.{replicate}
 use Rattle.std.proofs.lemmas.List.{length-replicate}
+use Rattle.std.proofs.lemmas.Option.{same_Some}
 use Rattle.mesh_gen.specs.declared.msg.Msg.{Msg}
 use Rattle.mesh_gen.specs.declared.port.Port.{Port}
 use Rattle.mesh_gen.specs.declared.port.Port.TheVariants.{L, E, W, N, S}
@@ -9,13 +10,14 @@ use Rattle.mesh_gen.specs.Grid.{Grid, tiles, neighbour}
 use Rattle.mesh_gen.specs.Limits.{IsFrom, most_side, most_tiles}
 use Rattle.mesh_gen.specs.Ports.{port_number, opposite}
 use Rattle.mesh_gen.specs.Routes.{HasTiles, route, rank, IsRouteChannel}
-use Rattle.vc_bank.specs.Channels.{Channels, slots_at, with_packet, IsFree, empty_channels}
+use Rattle.vc_bank.specs.Channels.{Channels, slots_at, IsFree, empty_channels}
 use Rattle.vc_bank.specs.Places.{Network, slots, at, put, HasPlace, sum_from, slot_count}
-use Rattle.vc_bank.proofs.PlaceLaws.{Apart, one_or_apart, bank-put_other, at-put, at-put_same, at-put_other, place_of, weigh-slot_count, weigh_none, slot_count-put, at-empty, length-slots-put}
+use Rattle.vc_bank.proofs.PlaceLaws.{Apart, one_or_apart, bank-put_other, at-put_same, at-put_other, place_of, weigh-slot_count, weigh_none, slot_count-put, at-empty, length-slots-put}
 use Rattle.chip_model.specs.declared.channel.Channel.{Channel}
 use Rattle.chip_model.specs.Copies.{channels_of}
 use Rattle.chip_model.specs.Replies.{no_replies}
-use Rattle.reply_net.specs.ReplyNetwork.{message_count, total, AreOnTheirRoutes, HaveChannels, Moves, RepliesFit, most_channels}
+use Rattle.chip_model.proofs.ChannelPuts.{length-put, every-put}
+use Rattle.reply_net.specs.ReplyNetwork.{message_count, total, HaveChannels, Moves, RepliesFit, most_channels}
 use Rattle.reply_net.proofs.Steps.{free_place, free_none, IsNext, total-take, total-put_free}
 
 -- ---- ports by their numbers
@@ -47,33 +49,25 @@ channels_apart a b other = ⊎_elim
     (λ apart. apart)
     (one_or_apart a.router (port_number a.port) a.slot b.router (port_number b.port) b.slot)
 
--- ---- messages on their ways
+-- ---- messages in channels
 abbrev OnWay : Grid → Msg → ℕ → Port → Type 0
 OnWay g msg r port = (msg.to < tiles g) × IsRouteChannel g msg.to r port
 
-on_way_there : (g : Grid) (msg m : Msg) (r n : ℕ) (port q : Port) → n ≡ r → q ≡ port → Some msg ≡ Some m → OnWay g msg r port → OnWay g m n q
-on_way_there g msg m r n port q router port_is msg_is own =
-    let same : msg ≡ m = cc in
-    subst (λ (x : Msg). OnWay g x n q) same (subst (λ (y : ℕ). OnWay g msg y q) (sym router) (subst (λ (z : Port). OnWay g msg r z) (sym port_is) own))
+-- what holds of each message, by its router and port
+abbrev pub EachStands : (ℕ → Port → Msg → Type 0) → Network Msg → Type 0
+EachStands holds net = (r : ℕ) (port : Port) (slot : ℕ) (msg : Msg) → at net r (port_number port) slot ≡ Some msg → holds r port msg
 
-on_routes-put : (g : Grid) (net : Network Msg) (r : ℕ) (port : Port) (slot : ℕ) (msg : Msg) → AreOnTheirRoutes g net → HasPlace net r (port_number port) slot → OnWay g msg r port → AreOnTheirRoutes g (put net r (port_number port) slot (Some msg))
-on_routes-put g net r port slot msg ways place own n q j m stands = ⊎_elim
-    (λ same. on_way_there g msg m r n port q same.0 (same_number q port same.1) same.3 own)
-    (λ before. ways n q j m before)
-    (at-put net r (port_number port) slot (Some msg) n (port_number q) j m place stands)
+pub each-put : (holds : ℕ → Port → Msg → Type 0) (net : Network Msg) (r : ℕ) (port : Port) (slot : ℕ) (msg : Msg) → EachStands holds net → HasPlace net r (port_number port) slot → holds r port msg
+    → EachStands holds (put net r (port_number port) slot (Some msg))
+each-put holds net r port slot msg each place own n q j m stands =
+    every-put (λ r p m. (q : Port) → port_number q ≡ p → holds r q m) net r (port_number port) slot (Some msg)
+    (λ r p i m stands q is. each r q i m (subst (λ (k : ℕ). at net r k i ≡ Some m) (sym is) stands)) place
+    (λ m same q is. subst (λ (x : Msg). holds r q x) (same_Some msg m same) (subst (λ (x : Port). holds r x msg) (sym (same_number q port is)) own)) n (port_number q) j m stands q refl
 
-on_routes-take : (g : Grid) (net : Network Msg) (r p slot : ℕ) → AreOnTheirRoutes g net → HasPlace net r p slot → AreOnTheirRoutes g (put net r p slot None)
-on_routes-take g net r p slot ways place n q j m stands = ⊎_elim
-    (λ same. absurd (nothing m same.3))
-    (λ before. ways n q j m before)
-    (at-put net r p slot None n (port_number q) j m place stands)
-  where
-    nothing : (m : Msg) → ◌≡◌ {A = Option Msg} None (Some m) → ⊥
-    nothing m is = cc
-
-length-put : (net : Network Msg) (r p slot : ℕ) (packet : Option Msg) → length (put net r p slot packet) ≡ length net
-unfolding put
-length-put net r p slot packet = length-set net r (with_packet (get_or net r []) p slot packet)
+pub each-take : (holds : ℕ → Port → Msg → Type 0) (net : Network Msg) (r p slot : ℕ) → EachStands holds net → HasPlace net r p slot → EachStands holds (put net r p slot None)
+each-take holds net r p slot each place n q j m stands =
+    every-put (λ r p m. (q : Port) → port_number q ≡ p → holds r q m) net r p slot None
+    (λ r p i m stands q is. each r q i m (subst (λ (k : ℕ). at net r k i ≡ Some m) (sym is) stands)) place (λ m nothing. cc) n (port_number q) j m stands q refl
 
 have_channels-put : (g : Grid) (net : Network Msg) (r p slot : ℕ) (packet : Option Msg) → HaveChannels g net → HasPlace net r p slot → HaveChannels g (put net r p slot packet)
 have_channels-put g net r p slot packet have place =
@@ -89,7 +83,7 @@ sound-put g net new r port slot msg sound free inside may is =
       routers = length-put net r (port_number port) slot (Some msg) ∙ sound.routers;
       channels = have_channels-put g net r (port_number port) slot (Some msg) sound.channels place;
       few = let same = slot_count-put net r (port_number port) slot (Some msg) place in let most = sound.few in omega arith;
-      on_routes = on_routes-put g net r port slot msg sound.on_routes place (inside, may);
+      on_routes = each-put (λ r port msg. OnWay g msg r port) net r port slot msg sound.on_routes place (inside, may);
     })
 
 pub sound-take : (g : Grid) (net new : Network Msg) (r p slot : ℕ) (msg : Msg) → RepliesFit (record { grid = g; messages = net }) → at net r p slot ≡ Some msg → new ≡ put net r p slot None → RepliesFit (record { grid = g; messages = new })
@@ -100,7 +94,7 @@ sound-take g net new r p slot msg sound stands is =
       routers = length-put net r p slot None ∙ sound.routers;
       channels = have_channels-put g net r p slot None sound.channels place;
       few = let same = slot_count-put net r p slot None place in let most = sound.few in omega arith;
-      on_routes = on_routes-take g net r p slot sound.on_routes place;
+      on_routes = each-take (λ r port msg. OnWay g msg r port) net r p slot sound.on_routes place;
     })
 
 -- ---- a hop
@@ -176,7 +170,7 @@ router_inside g net r p slot msg sound stands =
     omega arith
 
 -- ---- the network of a mesh with no message
-no_message : (g : Grid) (data_vcs r p slot : ℕ) (msg : Msg) → at (no_replies g data_vcs) r p slot ≡ Some msg → ⊥
+pub no_message : (g : Grid) (data_vcs r p slot : ℕ) (msg : Msg) → at (no_replies g data_vcs) r p slot ≡ Some msg → ⊥
 no_message g data_vcs r p slot msg stands = let none = at-empty {P = Msg} (tiles g) data_vcs false r p slot in cc
 
 slots_of_bank : (data_vcs : ℕ) → sum_from (λ port (slots : List (Option Msg)). length slots) 0 (empty_channels data_vcs false) ≡ 5 * data_vcs

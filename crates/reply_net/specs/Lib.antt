@@ -1,2 +1,3 @@
 pub mod ReplyNetwork
 pub mod ReplyRuns
+pub mod MessagesHold

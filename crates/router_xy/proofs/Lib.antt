@@ -8,3 +8,4 @@ pub mod OwedOutputs
 pub mod RoomForNames
 pub mod Arrived
 pub mod CopySteps
+pub mod CopiesKept

@@ -1,99 +1,55 @@
 -- What stands in the channels after a copy was put into one, or left it.
-use Rattle.std.proofs.Common.{◌≡◌, ℕ, zero, suc, ◌<◌, true, sym, ◌∙◌, ap, subst, arith, ⊎_elim, Option, Some, None, [], length, length-set, get_or}
-use Rattle.std.proofs.lemmas.Bool.{cases_eq}
-use Rattle.std.specs.Prelude.{replicate, slice_get}
+use Rattle.std.proofs.Common.{◌≡◌, ℕ, ◌<◌, true, sym, ◌∙◌, ap, subst, arith, Option, Some, None, []}
+use Rattle.std.specs.Prelude.{slice_get}
 use Rattle.std.proofs.lemmas.List.{length-replicate}
-use Rattle.std.proofs.lemmas.Option.{slice_get_within, slice_get-get_or, get_or_from_slice_get}
+use Rattle.std.proofs.lemmas.Option.{slice_get-get_or}
 use Rattle.mesh_gen.specs.declared.request.Request.{Request}
 use Rattle.mesh_gen.specs.declared.port.Port.{Port}
-use Rattle.mesh_gen.specs.Grid.{Grid, tiles}
+use Rattle.mesh_gen.specs.Grid.{Grid, tiles, neighbour}
 use Rattle.mesh_gen.specs.Limits.{IsFrom, most_side}
 use Rattle.mesh_gen.specs.Ports.{port_number, opposite}
 use Rattle.mesh_gen.specs.Routes.{HasTiles}
 use Rattle.mesh_gen.proofs.Beside.{neighbour_inside}
-use Rattle.vc_bank.specs.Channels.{Channels, slots_at, with_packet, IsFree, empty_channels, normal_slots}
-use Rattle.vc_bank.specs.Places.{Network, slots, at, put, HasPlace}
-use Rattle.vc_bank.proofs.PlaceLaws.{bank-put_same, bank-put_other, at-put, place_of, at-empty, length-slots-put}
+use Rattle.mesh_gen.proofs.Coordinates.{has_tiles}
+use Rattle.vc_bank.specs.Channels.{Channels, IsFree, normal_slots}
+use Rattle.vc_bank.specs.Places.{Network, at, put, HasPlace}
+use Rattle.vc_bank.proofs.PlaceLaws.{bank-put_other, place_of, at-empty}
 use Rattle.chip_model.specs.declared.net_copy.NetCopy.{NetCopy}
 use Rattle.chip_model.specs.Copies.{Name, channels_of, no_copies}
 use Rattle.chip_model.specs.CopiesOwed.{IsOnTree}
 use Rattle.chip_model.specs.NetworkShape.{HasChannels}
+use Rattle.chip_model.proofs.ChannelPuts.{HasChannels-put, HasChannels-empty, Every, every-put}
 use Rattle.router_xy.specs.declared.way.Way.{Way}
+use Rattle.router_xy.specs.CopiesHold.{CopiesHold}
 use Rattle.router_xy.specs.RequestNetwork.{IsOpenHop, RoutersFit}
 use Rattle.router_xy.proofs.Steps.{entry_is_free, hops_away}
 use Rattle.router_xy.proofs.CopyOutputs.{some_is, stands_left, stands_arriving}
 use Rattle.router_xy.proofs.OwedCounts.{Leaves, Arrives, free_place, OwesOnce, MayCome, owing-absent, once-leave, once-arrive}
 
-abbrev pub sound : Grid → ℕ → Network NetCopy → Type 0
-sound g vcs net = RoutersFit (record { grid = g; vcs = vcs; copies = net })
-
 -- ---- the channels of a router
-bank_there : (g : Grid) (vcs : ℕ) (net : Network NetCopy) (r : ℕ) → sound g vcs net → r < tiles g → slice_get net r ≡ Some (channels_of net r)
+bank_there : (g : Grid) (vcs : ℕ) (net : Network NetCopy) (r : ℕ) → CopiesHold g vcs net → r < tiles g → slice_get net r ≡ Some (channels_of net r)
 bank_there g vcs net r is inside = let routers = is.channels.routers in slice_get-get_or net r [] (omega arith)
 
-pub normal_there : (g : Grid) (vcs : ℕ) (net : Network NetCopy) (r : ℕ) → sound g vcs net → r < tiles g → normal_slots (channels_of net r) ≡ vcs
+pub normal_there : (g : Grid) (vcs : ℕ) (net : Network NetCopy) (r : ℕ) → CopiesHold g vcs net → r < tiles g → normal_slots (channels_of net r) ≡ vcs
 normal_there g vcs net r is inside = is.channels.slots r 0 (channels_of net r) (bank_there g vcs net r is inside) ∙ length-replicate vcs None
 
--- ---- a write keeps the shape
-length-put : (net : Network NetCopy) (r p slot : ℕ) (packet : Option NetCopy) → length (put net r p slot packet) ≡ length net
-unfolding put
-length-put net r p slot packet = length-set net r (with_packet (get_or net r []) p slot packet)
-
-length_bank-put : (net : Network NetCopy) (r p slot : ℕ) (packet : Option NetCopy) (n : ℕ) → HasPlace net r p slot → length (channels_of (put net r p slot packet) n) ≡ length (channels_of net n)
-length_bank-put net r p slot packet n place = ⊎_elim
-    (λ same. subst (λ (m : ℕ). length (channels_of (put net r p slot packet) m) ≡ length (channels_of net m)) (sym same)
-    (ap length (bank-put_same net r p slot packet place) ∙ length-set (channels_of net r) p _))
-    (λ apart. ap length (bank-put_other net r p slot packet n apart))
-    (cases_eq n r)
-
-length_slots-put : (net : Network NetCopy) (r p slot : ℕ) (packet : Option NetCopy) (n q : ℕ) → HasPlace net r p slot → length (slots_at (channels_of (put net r p slot packet) n) q) ≡ length (slots_at (channels_of net n) q)
-unfolding slots
-length_slots-put net r p slot packet n q place = length-slots-put net r p slot packet n q place
-
-bank_is : (net : Network NetCopy) (n : ℕ) (channels : Channels NetCopy) → slice_get net n ≡ Some channels → channels_of net n ≡ channels
-bank_is net n channels there = get_or_from_slice_get net n channels [] there
-
-channels-put : (g : Grid) (vcs : ℕ) (net : Network NetCopy) (r p slot : ℕ) (packet : Option NetCopy) → HasChannels g vcs true net → HasPlace net r p slot → HasChannels g vcs true (put net r p slot packet)
-channels-put g vcs net r p slot packet have place = record {
-  routers = length-put net r p slot packet ∙ have.routers;
-  ports = λ n channels there. ap length (sym (bank_is (put net r p slot packet) n channels there)) ∙ length_bank-put net r p slot packet n place
-      ∙ have.ports n (channels_of net n) (was n channels there);
-  slots = λ n q channels there. ap (λ (bank : Channels NetCopy). length (slots_at bank q)) (sym (bank_is (put net r p slot packet) n channels there)) ∙ length_slots-put net r p slot packet n q place
-      ∙ have.slots n q (channels_of net n) (was n channels there);
-}
-  where
-    was : (n : ℕ) (channels : Channels NetCopy) → slice_get (put net r p slot packet) n ≡ Some channels → slice_get net n ≡ Some (channels_of net n)
-    was n channels there = let within = slice_get_within (put net r p slot packet) n channels there in let same = length-put net r p slot packet in slice_get-get_or net n [] (omega arith)
-
--- ---- what holds of every copy
-abbrev pub Every : (ℕ → NetCopy → Type 0) → Network NetCopy → Type 0
-Every holds net = (r p slot : ℕ) (copy : NetCopy) → at net r p slot ≡ Some copy → holds r copy
-
-pub every-put : (holds : ℕ → NetCopy → Type 0) (net : Network NetCopy) (r p slot : ℕ) (packet : Option NetCopy) → Every holds net → HasPlace net r p slot → ((copy : NetCopy) → packet ≡ Some copy → holds r copy) → Every holds (put net r p slot packet)
-every-put holds net r p slot packet all place own n q i copy stands = ⊎_elim
-    (λ here. subst (λ (m : ℕ). holds m copy) (sym here.0) (own copy here.3))
-    (λ before. all n q i copy before)
-    (at-put net r p slot packet n q i copy place stands)
-
 -- ---- the routers stay sound
-sound-put : (g : Grid) (vcs : ℕ) (net new : Network NetCopy) (r p slot : ℕ) (packet : Option NetCopy) → sound g vcs net → HasPlace net r p slot → ((copy : NetCopy) → packet ≡ Some copy → IsOnTree g r copy) → OwesOnce g new → new ≡ put net r p slot packet
-    → sound g vcs new
+sound-put : (g : Grid) (vcs : ℕ) (net new : Network NetCopy) (r p slot : ℕ) (packet : Option NetCopy) → CopiesHold g vcs net → HasPlace net r p slot → ((copy : NetCopy) → packet ≡ Some copy → IsOnTree g r copy) → OwesOnce g new → new ≡ put net r p slot packet
+    → CopiesHold g vcs new
 sound-put g vcs net new r p slot packet is place own once made = record {
-  some = is.some;
-  vcs_limit = is.vcs_limit;
-  channels = subst (λ (net : Network NetCopy). HasChannels g vcs true net) (sym made) (channels-put g vcs net r p slot packet is.channels place);
+  channels = subst (λ (net : Network NetCopy). HasChannels g vcs true net) (sym made) (HasChannels-put g vcs true net r p slot packet is.channels place);
   fit = record {
-    stand = subst (λ (net : Network NetCopy). Every (IsOnTree g) net) (sym made) (every-put (IsOnTree g) net r p slot packet is.fit.stand place own);
+    stand = subst (λ (net : Network NetCopy). Every (λ router port copy. IsOnTree g router copy) net) (sym made) (every-put (λ router port copy. IsOnTree g router copy) net r p slot packet is.fit.stand place own);
     once = once;
   };
 }
 
-pub sound-leave : {g : Grid} {vcs : ℕ} {net new : Network NetCopy} {r p slot : ℕ} {out : Port} {copy : NetCopy} {left : Option NetCopy} → sound g vcs net → Leaves net new r p slot out copy left → sound g vcs new
+pub sound-leave : {g : Grid} {vcs : ℕ} {net new : Network NetCopy} {r p slot : ℕ} {out : Port} {copy : NetCopy} {left : Option NetCopy} → CopiesHold g vcs net → Leaves net new r p slot out copy left → CopiesHold g vcs new
 sound-leave {g} {vcs} {net} {new} {r} {p} {slot} {out} {copy} {left} is leaves =
     let on = is.fit.stand r p slot copy leaves.stands in
     sound-put g vcs net new r p slot left is (place_of net r p slot copy leaves.stands) (λ rest rest_is. stands_left g r out copy rest on (sym leaves.left_is ∙ rest_is)) (once-leave is.fit.once on leaves) leaves.made
 
-pub sound-arrive : {g : Grid} {vcs : ℕ} {net new : Network NetCopy} {r p slot : ℕ} {q : Request} {copy : NetCopy} → sound g vcs net → q.source < tiles g → r < tiles g → MayCome g net r q → Arrives g net new r p slot q copy → sound g vcs new
+pub sound-arrive : {g : Grid} {vcs : ℕ} {net new : Network NetCopy} {r p slot : ℕ} {q : Request} {copy : NetCopy} → CopiesHold g vcs net → q.source < tiles g → r < tiles g → MayCome g net r q → Arrives g net new r p slot q copy → CopiesHold g vcs new
 sound-arrive {g} {vcs} {net} {new} {r} {p} {slot} {q} {copy} is source inside may arrives =
     sound-put g vcs net new r p slot (Some copy) is (free_place net r p slot arrives.free)
     (λ other same. subst (λ (c : NetCopy). IsOnTree g r c) (sym arrives.copy_is ∙ some_is copy other same) (stands_arriving g r q source inside))
@@ -101,14 +57,14 @@ sound-arrive {g} {vcs} {net} {new} {r} {p} {slot} {q} {copy} is source inside ma
     arrives.made
 
 -- ---- a hop
-pub way_inside : (g : Grid) (vcs : ℕ) (net : Network NetCopy) (r : ℕ) (port : Port) (slot : ℕ) (out : Port) (expected : Option Name) (way : Way) → sound g vcs net → IsOpenHop g net r port slot out expected way → way.to < tiles g
-way_inside g vcs net r port slot out expected way is go = neighbour_inside g r out way.to is.some go.next
+pub way_inside : (g : Grid) (r : ℕ) (out : Port) (to : ℕ) → r < tiles g → neighbour g r out ≡ Some to → to < tiles g
+way_inside g r out to inside next = neighbour_inside g r out to (has_tiles g r inside) next
 
-pub entry_beside : (g : Grid) (vcs : ℕ) (net mid : Network NetCopy) (r : ℕ) (port : Port) (slot : ℕ) (out side : Port) (expected : Option Name) (way : Way) (left : Option NetCopy) → sound g vcs net → IsOpenHop g net r port slot out expected way
+pub entry_beside : (g : Grid) (net mid : Network NetCopy) (r : ℕ) (port : Port) (slot : ℕ) (out side : Port) (expected : Option Name) (way : Way) (left : Option NetCopy) → HasTiles g → IsOpenHop g net r port slot out expected way
     → mid ≡ put net r (port_number port) slot left → side ≡ opposite out → IsFree (channels_of mid way.to) (port_number side) way.entry
-entry_beside g vcs net mid r port slot out side expected way left is go mid_is side_is =
+entry_beside g net mid r port slot out side expected way left some go mid_is side_is =
     let free = entry_is_free (channels_of net way.to) (opposite out) _ way.entry go.entry in
-    let away = hops_away g r out way.to is.some go.next in
+    let away = hops_away g r out way.to some go.next in
     let same = ap (λ (net : Network NetCopy). channels_of net way.to) mid_is ∙ bank-put_other net r (port_number port) slot left way.to away in
     subst (λ (side : Port). IsFree (channels_of mid way.to) (port_number side) way.entry) (sym side_is) (subst (λ (bank : Channels NetCopy). IsFree bank (port_number (opposite out)) way.entry) (sym same) free)
 
@@ -116,34 +72,24 @@ entry_beside g vcs net mid r port slot out side expected way left is go mid_is s
 pub nothing_stands : (g : Grid) (vcs r p slot : ℕ) (copy : NetCopy) → at (no_copies g vcs) r p slot ≡ Some copy → ⊥
 nothing_stands g vcs r p slot copy stands = let none = at-empty {P = NetCopy} (tiles g) vcs true r p slot in cc
 
-get_replicate : {X : Type 0} (count n : ℕ) (x y : X) → slice_get (replicate count x) n ≡ Some y → y ≡ x
-get_replicate zero n x y there = cc
-get_replicate (suc count) zero x y there = cc
-get_replicate (suc count) (suc n) x y there = get_replicate count n x y there
-
-sound_empty : (g : Grid) (vcs : ℕ) → HasTiles g → IsFrom 1 8 vcs → sound g vcs (no_copies g vcs)
-sound_empty g vcs some limit = record {
-  some = some;
-  vcs_limit = limit;
-  channels = record {
-    routers = length-replicate (tiles g) (empty_channels vcs true);
-    ports = λ n channels there. ap length (get_replicate (tiles g) n (empty_channels vcs true) channels there);
-    slots = λ n q channels there. ap (λ (bank : Channels NetCopy). length (slots_at bank q)) (get_replicate (tiles g) n (empty_channels vcs true) channels there);
-  };
+pub sound_empty : (g : Grid) (vcs : ℕ) → CopiesHold g vcs (no_copies g vcs)
+sound_empty g vcs = record {
+  channels = HasChannels-empty g vcs true;
   fit = record {
     stand = λ r p slot copy stands. absurd (nothing_stands g vcs r p slot copy stands);
     once = λ name tile. let none = owing-absent g (no_copies g vcs) name tile (λ r p slot copy stands. absurd (nothing_stands g vcs r p slot copy stands)) in omega arith;
   };
 }
 
--- the same of a mesh of one's own with the size of the mesh that was given
-pub sound_opened : (own given : Grid) (vcs : ℕ) (net : Network NetCopy) → own.cols ≡ given.cols → own.rows ≡ given.rows → IsFrom 1 most_side given.cols → IsFrom 1 most_side given.rows → IsFrom 1 8 vcs → net ≡ no_copies given vcs → sound own vcs net
+-- the routers of a mesh of one's own with the size of the mesh that was given
+pub sound_opened : (own given : Grid) (vcs : ℕ) (net : Network NetCopy) → own.cols ≡ given.cols → own.rows ≡ given.rows → IsFrom 1 most_side given.cols → IsFrom 1 most_side given.rows → IsFrom 1 8 vcs → net ≡ no_copies given vcs
+    → RoutersFit (record { grid = own; vcs = vcs; copies = net })
 sound_opened own given vcs net cols rows cols_limit rows_limit vcs_limit is =
     let some_column = cols_limit.low in
     let some_row = rows_limit.low in
     let some : HasTiles given = record { some_column = omega arith; some_row = omega arith } in
-    subst (λ (g : Grid). sound g vcs net) (sym (same_grid own.cols given.cols own.rows given.rows cols rows))
-    (subst (λ (net : Network NetCopy). sound given vcs net) (sym is) (sound_empty given vcs some vcs_limit))
+    subst (λ (g : Grid). RoutersFit (record { grid = g; vcs = vcs; copies = net })) (sym (same_grid own.cols given.cols own.rows given.rows cols rows))
+    (record { some = some; vcs_limit = vcs_limit; copies = subst (λ (net : Network NetCopy). CopiesHold given vcs net) (sym is) (sound_empty given vcs) })
   where
     same_grid : (a b p q : ℕ) → a ≡ b → p ≡ q → ◌≡◌ {A = Grid} (record { cols = a; rows = p }) (record { cols = b; rows = q })
     same_grid a b p q cols rows = rw (cols, rows)

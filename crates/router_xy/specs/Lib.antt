@@ -1,3 +1,4 @@
+pub mod CopiesHold
 pub mod RequestNetwork
 pub mod LocalCopies
 pub mod CopySteps

@@ -9,8 +9,8 @@ use Rattle.mesh_gen.specs.Routes.{HasTiles}
 use Rattle.vc_bank.specs.Places.{Network, at, weigh}
 use Rattle.chip_model.specs.declared.net_copy.NetCopy.{NetCopy}
 use Rattle.chip_model.specs.Copies.{Name, is_named, owes, channels_of, entry_slot, expects}
-use Rattle.chip_model.specs.CopiesOwed.{CopiesFit, Owes}
-use Rattle.chip_model.specs.NetworkShape.{HasChannels}
+use Rattle.chip_model.specs.CopiesOwed.{Owes}
+use Rattle.router_xy.specs.CopiesHold.{CopiesHold}
 use Rattle.router_xy.specs.declared.way.Way.{Way}
 
 -- the grid of the routers, how many normal channels a port has, and the copies in the channels
@@ -42,10 +42,8 @@ numbered place = option_map (λ place. (port_number place.0, place.1)) place
 abbrev pub IsOneOutput : (g : Grid) (net : Network NetCopy) (name : Name) (tile : ℕ) → Owes g net name tile → Owes g net name tile → Type 0
 IsOneOutput g net name tile a b = (a.router ≡ b.router) × (a.port ≡ b.port) × (a.slot ≡ b.slot) × (a.out ≡ b.out)
 
--- there are routers, one for each tile, with their channels, and the copies in them stand on their trees and owe each
--- tile at most once
+-- there are routers, one for each tile, with their channels and copies
 pub record RoutersFit (net : RequestNetwork) : Type 0 where
   pub some : HasTiles net.grid
   pub vcs_limit : IsFrom 1 8 net.vcs
-  pub channels : HasChannels net.grid net.vcs true net.copies
-  pub fit : CopiesFit net.grid net.copies
+  pub copies : CopiesHold net.grid net.vcs net.copies

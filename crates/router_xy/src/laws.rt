@@ -4,12 +4,13 @@ ghost use Rattle.mesh_gen.specs.declared.port.Port.{Port};
 ghost use Rattle.mesh_gen.specs.declared.request.Request.{Request};
 ghost use Rattle.mesh_gen.specs.Grid.{Grid, tiles};
 ghost use Rattle.vc_bank.specs.Places.{Network, at};
-ghost use Rattle.chip_model.specs.Copies.{Name, no_copies, after_entry, after_hop, local_place, after_serve};
+ghost use Rattle.chip_model.specs.Copies.{Name, name_of, no_copies, after_entry, after_hop, local_place, after_serve};
 ghost use Rattle.chip_model.specs.CopiesOwed.{CopiesFit, Owes, owing, NoneAhead, NoneComes, ComesAlone};
 ghost use Rattle.chip_model.specs.NetworkShape.{HasChannels};
 ghost use Rattle.router_xy.specs.LocalCopies.{HasLocalCopy};
 ghost use Rattle.router_xy.specs.RequestNetwork.{IsAbsent, IsOneOutput};
-ghost use Rattle.router_xy.specs.CopySteps.{Serves};
+ghost use Rattle.router_xy.specs.CopiesHold.{CopiesHold};
+ghost use Rattle.router_xy.specs.CopySteps.{Serves, RequestEntered, CopyHopped, RequestServed};
 
 use chip_model::NetCopy;
 use mesh_gen::tree_laws;
@@ -54,4 +55,22 @@ pub fn step_laws()
     ensures found { (net : Network NetCopy) (r : ℕ) (name : Name) → is_some (after_serve net r name) ≡ is_some (local_place net r name) }
     ensures serves { (old new : Network NetCopy) (r : ℕ) (name : Name) (q : Request) → after_serve old r name ≡ Some (q, new)
         → Serves old new name q }
+{}
+
+/// The laws of what the steps of copies keep and change, over every grid. At run time it does nothing.
+pub fn copies_laws()
+    // Before any step every router has its channels, and no copy stands.
+    ensures opened { (g : Grid) (vcs : ℕ) → CopiesHold g vcs (no_copies g vcs) }
+
+    // A request of which no copy stands enters.
+    ensures enters { (g : Grid) (vcs : ℕ) (old new : Network NetCopy) (q : Request) → q.source < tiles g → CopiesHold g vcs old
+        → IsAbsent old (name_of q) → after_entry g old q ≡ Some new → RequestEntered g vcs q old new }
+
+    // A copy hops to a router that may expect its request.
+    ensures hops { (g : Grid) (vcs : ℕ) (old new : Network NetCopy) (r : ℕ) (port : Port) (slot : ℕ) (out : Port) (expected : Option Name)
+        → CopiesHold g vcs old → after_hop g old r port slot out expected ≡ Some new → CopyHopped g vcs r out expected old new }
+
+    // A request is served to the router's own tile.
+    ensures serves { (g : Grid) (vcs : ℕ) (old new : Network NetCopy) (r : ℕ) (name : Name) (q : Request) → CopiesHold g vcs old
+        → after_serve old r name ≡ Some (q, new) → RequestServed g vcs r name q old new }
 {}

@@ -10,5 +10,5 @@ mod routers;
 mod way;
 
 pub use chip_model::NetCopy;
-pub use laws::{owed_laws, step_laws};
+pub use laws::{copies_laws, owed_laws, step_laws};
 pub use routers::Routers;

@@ -1,5 +1,5 @@
 -- What is kept of windows and their latches, call by call.
-use Rattle.std.proofs.Common.{◌≡◌, ℕ, ◌+◌, ◌^◌, ◌<◌, ◌≤◌, List, [], ◌∷◌, ◌++◌, length, set, refl, sym, ◌∙◌, subst, arith, bit_or}
+use Rattle.std.proofs.Common.{◌≡◌, ℕ, ◌+◌, ◌^◌, ◌<◌, ◌≤◌, List, [], ◌∷◌, ◌++◌, length, set, refl, sym, ◌∙◌, subst, arith, bit_or, length-append}
 use Rattle.mesh_gen.specs.Grid.{Grid, tiles, diameter}
 use Rattle.mesh_gen.specs.TileSet.{set_of}
 use Rattle.mesh_gen.proofs.TileSets.{set_of-push}
@@ -7,7 +7,8 @@ use Rattle.notify_net.specs.Latches.{LatchState}
 use Rattle.notify_net.specs.Merge.{IsAtPhase}
 use Rattle.chip_model.specs.Windows.{Windows, opening_windows, window_closed}
 use Rattle.window_core.specs.Windows.{state_of, AreSound, IsKept}
-use Rattle.window_core.proofs.Sound.{AreSound-open, AreSound-post, AreSound-merge, AreSound-close, AreSound-take}
+use Rattle.window_core.proofs.Holds.{posted, merged, ended, took}
+use Rattle.window_core.proofs.Sound.{AreSound-open, AreSound-step}
 
 -- latches of a grid that is the same
 same_grid : (old new : LatchState) (ticks : ℕ) (w : Windows) (room : ℕ) → new.grid ≡ old.grid → AreSound (state_of old ticks w room) → AreSound (state_of new ticks w room)
@@ -23,7 +24,7 @@ IsKept-post old new ticks w room t first inside law kept =
     let before : IsAtPhase old.grid kept.list 0 old = rw first at kept.at in
     let after : IsAtPhase old.grid (kept.list ++ t ∷ []) 0 new = law old.grid kept.list before in
     record {
-      sound = same_grid old new ticks (record w { posts = bit_or (2 ^ t) w.posts }) room after.grid_is (AreSound-post (state_of old ticks w room) t first inside kept.sound);
+      sound = same_grid old new ticks (record w { posts = bit_or (2 ^ t) w.posts }) room after.grid_is (AreSound-step (state_of old ticks w room) (record w { posts = bit_or (2 ^ t) w.posts }) (posted t first inside kept.sound.holds) kept.sound.room kept.sound);
       list = kept.list ++ t ∷ [];
       set = set_of-push kept.list t ∙ rw kept.set refl;
       at = rw first (phase_here old.grid new (kept.list ++ t ∷ []) 0 after);
@@ -32,10 +33,10 @@ IsKept-post old new ticks w room t first inside law kept =
 pub IsKept-merge : (old new : LatchState) (ticks : ℕ) (w : Windows) (room : ℕ) → 0 < w.posts → w.phase + 1 < ticks
     → ((g : Grid) (posts : List ℕ) (k : ℕ) → IsAtPhase g posts k old → IsAtPhase g posts (k + 1) new)
     → IsKept old ticks w room → IsKept new ticks (record w { phase = w.phase + 1 }) room
-IsKept-merge old new ticks w room posted more law kept =
+IsKept-merge old new ticks w room some more law kept =
     let after : IsAtPhase old.grid kept.list (w.phase + 1) new = law old.grid kept.list w.phase kept.at in
     record {
-      sound = same_grid old new ticks (record w { phase = w.phase + 1 }) room after.grid_is (AreSound-merge (state_of old ticks w room) posted more kept.sound);
+      sound = same_grid old new ticks (record w { phase = w.phase + 1 }) room after.grid_is (AreSound-step (state_of old ticks w room) (record w { phase = w.phase + 1 }) (merged some more kept.sound.holds) kept.sound.room kept.sound);
       list = kept.list;
       set = kept.set;
       at = phase_here old.grid new kept.list (w.phase + 1) after;
@@ -51,8 +52,8 @@ vector-close old mid ticks w room vector last law whole kept =
 
 pub IsKept-close : (old new : LatchState) (ticks : ℕ) (w : Windows) (room : ℕ) → 0 < w.posts → length w.closed < room → new.grid ≡ old.grid → IsAtPhase old.grid [] 0 new
     → IsKept old ticks w room → IsKept new ticks (window_closed w) room
-IsKept-close old new ticks w room posted spare is cleared kept = record {
-  sound = same_grid old new ticks (window_closed w) room is (AreSound-close (state_of old ticks w room) posted spare kept.sound);
+IsKept-close old new ticks w room some spare is cleared kept = record {
+  sound = same_grid old new ticks (window_closed w) room is (AreSound-step (state_of old ticks w room) (window_closed w) (ended some kept.sound.holds) (omega (arith, length-append w.closed (w.posts ∷ []))) kept.sound);
   list = [];
   set = refl;
   at = phase_here old.grid new [] 0 cleared;
@@ -61,7 +62,7 @@ IsKept-close old new ticks w room posted spare is cleared kept = record {
 pub IsKept-take : (latches : LatchState) (ticks : ℕ) (w : Windows) (room t count : ℕ) → count < length w.closed
     → IsKept latches ticks w room → IsKept latches ticks (record w { taken = set w.taken t (count + 1) }) room
 IsKept-take latches ticks w room t count some kept = record {
-  sound = AreSound-take (state_of latches ticks w room) t count some kept.sound;
+  sound = AreSound-step (state_of latches ticks w room) (record w { taken = set w.taken t (count + 1) }) (took t count some kept.sound.holds) kept.sound.room kept.sound;
   list = kept.list;
   set = kept.set;
   at = kept.at;

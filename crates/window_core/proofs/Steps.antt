@@ -1,10 +1,8 @@
 -- The steps of windows where their guards hold and where they do not.
-use Rattle.std.proofs.Common.{◌≡◌, ◌≢◌, ℕ, ◌+◌, ◌^◌, ◌<◌, Bool, true, false, not, ◌&&◌, ◌==◌, List, length, set, Option, Some, None, refl, sym, ◌∙◌, subst, arith, bit_or}
+use Rattle.std.proofs.Common.{◌≡◌, ◌≢◌, ℕ, ◌+◌, ◌^◌, ◌<◌, Bool, true, false, not, ◌&&◌, ◌==◌, List, length, set, Option, Some, None, refl, sym, ◌∙◌, arith, bit_or}
 use Rattle.std.specs.Prelude.{slice_get, nat_lt, nat_eq, is_some}
-use Rattle.std.specs.List.{All}
 use Rattle.std.proofs.lemmas.Bool.Decides.{nat_tests}
-use Rattle.std.proofs.lemmas.Option.{slice_get_within, get_or_from_slice_get}
-use Rattle.std.proofs.lemmas.List.Elements.{All-get_or}
+use Rattle.std.proofs.lemmas.Option.{slice_get_within}
 use Rattle.mesh_gen.specs.TileSet.{has_tile}
 use Rattle.chip_model.specs.Partial.{when, ◌>>=◌}
 use Rattle.chip_model.specs.Windows.{Windows, may_post, after_post, window_closed, after_tick, closed_by_tick, next_vector, after_take}
@@ -114,11 +112,6 @@ next-within taken closed t vector next = slice_get_within taken t next.at next.c
 
 pub next-below : (taken closed : List ℕ) (t vector : ℕ) → (next : IsNext taken closed t vector) → next.at < length closed
 next-below taken closed t vector next = slice_get_within closed next.at vector next.there
-
--- what holds of each vector holds of the next
-pub next-all : (P : ℕ → Type 0) (taken closed : List ℕ) (t vector : ℕ) → IsNext taken closed t vector → All P closed → P vector
-next-all P taken closed t vector next all =
-    subst P (get_or_from_slice_get closed next.at vector vector next.there) (All-get_or P closed next.at vector (slice_get_within closed next.at vector next.there) all)
 
 pub next_vector-some : (w : Windows) (t vector : ℕ) → IsNext w.taken w.closed t vector → next_vector w t ≡ Some vector
 unfolding next_vector

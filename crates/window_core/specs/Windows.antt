@@ -1,6 +1,5 @@
 -- The windows of a mesh's notification network, and what is true of them at every moment.
-use Rattle.std.specs.Prelude.{◌≡◌, ℕ, ◌^◌, ◌<◌, ◌≤◌, List, length}
-use Rattle.std.specs.List.{All}
+use Rattle.std.specs.Prelude.{◌≡◌, ◌⊎◌, ℕ, ◌^◌, ◌<◌, ◌≤◌, List, length, Some, slice_get}
 use Rattle.mesh_gen.specs.Grid.{Grid, tiles, diameter}
 use Rattle.mesh_gen.specs.TileSet.{set_of}
 use Rattle.notify_net.specs.Latches.{LatchState}
@@ -29,18 +28,22 @@ pub record SameSizes (old new : WindowsState) : Type 0 where
   pub ticks_is : new.ticks ≡ old.ticks
   pub room_is : new.room ≡ old.room
 
--- a window is long enough to cross the grid and is not over, some tile has posted where it has begun, each closed vector
--- is a set of some tiles, and no tile has taken more vectors than there are
+-- a window of so many ticks is not over and ticks only where a tile posted, each closed vector is a set of some tiles, and
+-- no tile has taken more vectors than there are
+pub record WindowsHold (tiles ticks : ℕ) (w : Windows) : Type 0 where
+  pub phase : w.phase < ticks
+  pub begun : (w.phase ≡ 0) ⊎ (0 < w.posts)
+  pub posts : w.posts < 2 ^ tiles
+  pub closed : (k vector : ℕ) → slice_get w.closed k ≡ Some vector → IsWindow tiles vector
+  pub count : length w.taken ≡ tiles
+  pub taken : (t count : ℕ) → slice_get w.taken t ≡ Some count → count ≤ length w.closed
+
+-- besides, a window is long enough to cross the grid, and there is room for the vectors
 pub record AreSound (s : WindowsState) : Type 0 where
   pub some : 0 < tiles s.grid
   pub few : tiles s.grid ≤ 64
   pub wide : diameter s.grid ≤ s.ticks
-  pub phase : s.windows.phase < s.ticks
-  pub begun : 0 < s.windows.phase → 0 < s.windows.posts
-  pub word : s.windows.posts < 2 ^ tiles s.grid
-  pub vectors : All (IsWindow (tiles s.grid)) s.windows.closed
-  pub count : length s.windows.taken ≡ tiles s.grid
-  pub taken : All (λ count. count ≤ length s.windows.closed) s.windows.taken
+  pub holds : WindowsHold (tiles s.grid) s.ticks s.windows
   pub room : length s.windows.closed ≤ s.room
 
 -- besides, the latches hold what the ticks of the open window have made of its posts

@@ -2,7 +2,9 @@
 //! has taken of the merged vectors.
 #![tactic(auto)]
 
+mod laws;
 mod tile_set;
 mod windows;
 
+pub use laws::window_laws;
 pub use windows::Windows;

@@ -1,4 +1,4 @@
-use Rattle.std.proofs.Common.{◌≡◌, None}
+use Rattle.std.proofs.Common.{◌≡◌, Some, None}
 use Rattle.chip_model.specs.OrderedNetwork.{after_copy_hop}
 use Rattle.net_iface.specs.Parts.{network_of}
 use Rattle.net_iface.proofs.InsideParts.{parts}
@@ -17,20 +17,22 @@ returns-in_err-hop-clause-err c =
     in
     on_err c.from_residual.result _ refused
 
-pub invariant_of-self-2 : goal.invariant_of-self-2
-invariant_of-self-2 c =
-    let behind = rw (← c.self.view_is) at c.expected_at_next_hop-expected.ensures in
-    let done = c.in_ok-hop.ensures in (
-      AreKept-hop (parts c.self.inside) c.hop.new.self c.args.r c.args.out c.expected_at_next_hop-expected.result done.grid done.vcs behind done.owed done.requests done.reserved c.self.invariant.0,
-      c.self.invariant.1,
-    )
-
-pub returns-clause-ok : goal.returns-clause-ok
-returns-clause-ok c =
+steps : (c : goal.In_ok-hop) → after_copy_hop (parts c.self.inside).chip (network_of (parts c.self.inside)) c.args.r c.args.port c.args.slot c.args.out ≡ Some (network_of (record (parts c.self.inside) { routers = c.hop.new.self }))
+steps c =
     let p = parts c.self.inside in
     let behind = rw (← c.self.view_is) at c.expected_at_next_hop-expected.ensures in
     let done = rw c.self.invariant.0.sizes.grid at c.in_ok-hop.ensures.ok in
-    rw (← c.self.view_is) (after_copy_hop-some p.chip (network_of p) c.args.r c.args.port c.args.slot c.args.out c.expected_at_next_hop-expected.result c.hop.new.self.copies behind done)
+    after_copy_hop-some p.chip (network_of p) c.args.r c.args.port c.args.slot c.args.out c.expected_at_next_hop-expected.result c.hop.new.self.copies behind done
+
+pub invariant_of-self-2 : goal.invariant_of-self-2
+invariant_of-self-2 c =
+    let p = parts c.self.inside in
+    let done = c.in_ok-hop.ensures in
+    let holds = c.network_laws.ensures.hopped p.chip (network_of p) _ c.args.r c.args.port c.args.slot c.args.out c.self.invariant.0.holds (steps c) in
+    (AreKept-hop p c.hop.new.self done.grid done.vcs holds c.self.invariant.0, c.self.invariant.1)
+
+pub returns-clause-ok : goal.returns-clause-ok
+returns-clause-ok c = rw (← c.self.view_is) (steps c)
 
 pub returns-clause-moves : goal.returns-clause-moves
 returns-clause-moves c =

@@ -10,8 +10,8 @@ use Rattle.net_iface.specs.Unordered.{unordered_of}
 use Rattle.net_iface.specs.Parts.{network_of, interface_of}
 use Rattle.net_iface.proofs.InsideParts.{parts}
 use Rattle.net_iface.proofs.Expected.{interface_at}
-use Rattle.net_iface.proofs.Injects.{next_is, next_source, next_number, no_next, absent, has_room, made_below, next_made, AreKept-inject, inject_seen}
-use Rattle.net_iface.proofs.Laws.{room_for_names}
+use Rattle.net_iface.proofs.Injects.{next_is, next_source, next_number, no_next, absent, has_room, made_below, next_made, injected, AreKept-inject, inject_seen}
+use Rattle.net_iface.proofs.LawsOfParts.{room_for_names}
 use Rattle.net_iface.proofs.Places.{count_read, risen}
 use Rattle.net_iface.proofs.Steps.{on_err, after_inject-some, after_inject-full, after_inject-none}
 use Rattle.net_iface.proofs.ordered_net.OrderedNet.inject.Goals as goal
@@ -77,10 +77,10 @@ overflow_add-index_mut c =
     let number = next_number p c.args.t c.args.kind c.args.line c.in-Some.q one in
     let inside : c.in-Some.q.source < tile_count p.chip = omega (arith, one.inside, source) in
     let done = c.in_ok-inject.ensures in
-    let owes = rw kept.sizes.grid at done.owed in
-    let reserves = rw kept.sizes.vcs at done.reserved in
+    let enters = rw kept.sizes.grid at done.ok in
+    let holds = c.network_laws.ensures.made p.chip (network_of p) _ c.args.t c.args.kind c.args.line kept.holds (injected p c.inject.new.self c.args.t c.args.kind c.args.line c.in-Some.q kept inside number one enters) in
     let law = room_for_names p c.inject.new.self c.in-Some.q.source c.owed_laws.ensures.room (done.grid ∙ kept.sizes.grid) (done.vcs ∙ kept.sizes.vcs) c.tiles.ensures.channels in
-    let room = has_room p c.inject.new.self c.in-Some.q kept inside number owes done.requests reserves law in
+    let room = has_room p c.inject.new.self c.in-Some.q kept inside number holds law in
     let few : length (unordered_of p.unordered c.in-Some.q.source) ≤ channel_count p.chip = omega (arith, room, kept.capacities c.in-Some.q.source inside) in
     let below = made_below p c.in-Some.q.source kept inside c.self.inside.mesh.vcs_limit.high few in
     let here : c.index_mut.result.now ≡ slice_index p.made c.in-Some.q.source =
@@ -99,10 +99,10 @@ add-requires c =
     let number = next_number p c.args.t c.args.kind c.args.line c.in-Some.q one in
     let inside : c.in-Some.q.source < tile_count p.chip = omega (arith, one.inside, source) in
     let done = c.in_ok-inject.ensures in
-    let owes = rw kept.sizes.grid at done.owed in
-    let reserves = rw kept.sizes.vcs at done.reserved in
+    let enters = rw kept.sizes.grid at done.ok in
+    let holds = c.network_laws.ensures.made p.chip (network_of p) _ c.args.t c.args.kind c.args.line kept.holds (injected p c.inject.new.self c.args.t c.args.kind c.args.line c.in-Some.q kept inside number one enters) in
     let law = room_for_names p c.inject.new.self c.in-Some.q.source c.owed_laws.ensures.room (done.grid ∙ kept.sizes.grid) (done.vcs ∙ kept.sizes.vcs) c.tiles.ensures.channels in
-    let room = has_room p c.inject.new.self c.in-Some.q kept inside number owes done.requests reserves law in
+    let room = has_room p c.inject.new.self c.in-Some.q kept inside number holds law in
     room
 
 pub invariant_of-self-2 : goal.invariant_of-self-2
@@ -115,10 +115,10 @@ invariant_of-self-2 c =
     let number = next_number p c.args.t c.args.kind c.args.line c.in-Some.q one in
     let inside : c.in-Some.q.source < tile_count p.chip = omega (arith, one.inside, source) in
     let done = c.in_ok-inject.ensures in
-    let owes = rw kept.sizes.grid at done.owed in
-    let reserves = rw kept.sizes.vcs at done.reserved in
+    let enters = rw kept.sizes.grid at done.ok in
+    let holds = c.network_laws.ensures.made p.chip (network_of p) _ c.args.t c.args.kind c.args.line kept.holds (injected p c.inject.new.self c.args.t c.args.kind c.args.line c.in-Some.q kept inside number one enters) in
     let counts = risen p.made c.from.result c.args.t c.in-Some.q.source c.index_mut.result.now c.from.ensures source (omega (arith, c.from.ensures, one.inside, kept.sizes.made)) c.index_mut.ensures.value in
-    (AreKept-inject p c.inject.new.self c.in-Some.q kept inside number c.add.new.lists.items _ c.add.ensures counts done.grid done.vcs owes done.requests reserves, c.self.invariant.1)
+    (AreKept-inject p c.inject.new.self c.in-Some.q kept inside number c.add.new.lists.items _ c.add.ensures counts done.grid done.vcs holds, c.self.invariant.1)
 
 pub returns-clause-ok : goal.returns-clause-ok
 returns-clause-ok c =
@@ -130,8 +130,6 @@ returns-clause-ok c =
     let number = next_number p c.args.t c.args.kind c.args.line c.in-Some.q one in
     let inside : c.in-Some.q.source < tile_count p.chip = omega (arith, one.inside, source) in
     let done = c.in_ok-inject.ensures in
-    let owes = rw kept.sizes.grid at done.owed in
-    let reserves = rw kept.sizes.vcs at done.reserved in
     let entered_here = rw kept.sizes.grid at done.ok in
     let step =
     after_inject-some p.chip (network_of p) c.args.t c.args.kind c.args.line (interface_of p.windows.windows.posts p.ordered p.unordered p.delivered c.args.t) c.inject.new.self.copies (interface_at p c.args.t one.inside)

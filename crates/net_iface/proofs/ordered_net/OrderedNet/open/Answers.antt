@@ -26,7 +26,8 @@ pub invariant_of-result : goal.invariant_of-result
 invariant_of-result c =
     let chip = chip_of_mesh c.args.mesh.now in
     let trackers = c.in_ok-new_trackers.field-0.items in
-    let kept = AreKept-opening_state chip c.args.room trackers (omega (arith, c.tiles.ensures.tiles, c.tiles.ensures.limits.low)) c.step_laws.ensures.opened c.owed_laws.ensures.absent (omega (arith, c.tiles.ensures.tiles, c.tiles.ensures.limits.high)) c.requires c.in_ok-new_trackers.ensures in
+    let window = c.args.mesh.now.window_limit in
+    let kept = AreKept-opening_state chip c.args.room trackers (omega (arith, c.tiles.ensures.tiles, c.tiles.ensures.limits.low)) (c.network_laws.ensures.opened chip (omega (arith, window.low))) (omega (arith, c.tiles.ensures.tiles, c.tiles.ensures.limits.high)) c.requires c.in_ok-new_trackers.ensures in
     (subst (λ (p : Parts). AreKept p) (sym (opened_parts c)) kept, c.in_ok-with_capacity.ensures.capacity)
 
 pub returns : goal.returns
@@ -34,4 +35,4 @@ returns c =
     let chip = chip_of_mesh c.args.mesh.now in
     ap network_of_parts (opened_parts c)
     ∙ ap (λ (net : OrderedNetwork). record { chip = chip; network = net; room = c.args.room })
-    (opening_seen chip c.args.room c.in_ok-new_trackers.field-0.items (omega (arith, c.tiles.ensures.tiles, c.tiles.ensures.limits.low)) c.step_laws.ensures.opened c.owed_laws.ensures.absent)
+    (opening_seen chip c.args.room c.in_ok-new_trackers.field-0.items (omega (arith, c.tiles.ensures.tiles, c.tiles.ensures.limits.low)))

@@ -24,15 +24,8 @@ returns-in_err-post-clause-err c =
     let refused : after_request_post c.args.self.now.network c.args.t ≡ None = rw (← c.self.view_is) (after_request_post-refused (network_of (parts c.self.inside)) c.args.t c.in_err-post.ensures.err) in
     on_err c.from_residual.result _ refused
 
-pub invariant_of-self-2 : goal.invariant_of-self-2
-invariant_of-self-2 c =
-    let p = parts c.self.inside in
-    let is = rw c.deref.ensures.value at c.is_none_left.ensures in
-    let some = some_left (length (unordered_of p.unordered c.args.t)) c.is_none_left.result c.if-is_none_left.false is in
-    (AreKept-post p c.post.new.self c.args.t c.in_ok-post.ensures.sizes c.in_ok-post.ensures.ok some c.self.invariant.0, c.self.invariant.1)
-
-pub returns-clause-ok : goal.returns-clause-ok
-returns-clause-ok c =
+steps : (c : goal.In_ok-post) → after_request_post (network_of (parts c.self.inside)) c.args.t ≡ Some (network_of (record (parts c.self.inside) { windows = c.post.new.self }))
+steps c =
     let p = parts c.self.inside in
     let is = rw c.deref.ensures.value at c.is_none_left.ensures in
     let some = some_left (length (unordered_of p.unordered c.args.t)) c.is_none_left.result c.if-is_none_left.false is in
@@ -43,4 +36,13 @@ returns-clause-ok c =
     after_request_post-some (network_of p) c.args.t (interface_of p.windows.windows.posts p.ordered p.unordered p.delivered c.args.t) c.post.new.self.windows (interface_at p c.args.t inside)
     (one_to_post p c.args.t some may.fresh) c.in_ok-post.ensures.ok
     in
-    rw (← c.self.view_is) (step ∙ ap Some (posts_once p c.post.new.self c.args.t inside may.fresh (ap (λ (w : Windows). w.posts) (sym post.is))))
+    step ∙ ap Some (posts_once p c.post.new.self c.args.t inside may.fresh (ap (λ (w : Windows). w.posts) (sym post.is)))
+
+pub invariant_of-self-2 : goal.invariant_of-self-2
+invariant_of-self-2 c =
+    let p = parts c.self.inside in
+    let holds = c.network_laws.ensures.posted p.chip (network_of p) _ c.args.t c.self.invariant.0.holds (steps c) in
+    (AreKept-post p c.post.new.self c.args.t c.in_ok-post.ensures.sizes c.in_ok-post.ensures.ok holds c.self.invariant.0, c.self.invariant.1)
+
+pub returns-clause-ok : goal.returns-clause-ok
+returns-clause-ok c = rw (← c.self.view_is) (steps c)

@@ -3,6 +3,7 @@ use Rattle.std.specs.List.{filter_map}
 use Rattle.order_tracker.specs.Order.{expansion}
 use Rattle.chip_model.specs.Chip.{tile_count}
 use Rattle.chip_model.specs.Windows.{Windows, window_closed}
+use Rattle.chip_model.specs.OrderedNetwork.{after_network_tick}
 use Rattle.net_iface.specs.Unordered.{lowest_of, LoseLowest}
 use Rattle.net_iface.specs.Parts.{network_of}
 use Rattle.net_iface.proofs.InsideParts.{parts}
@@ -27,40 +28,46 @@ orders c =
     let count = rw (← c.self.view_is) at c.closed_count-number.ensures.count in
     rw (c.tiles-tiles.ensures.tiles, count, sym (is_last c).is) at c.order_window.ensures.ordered
 
-pub invariant_of-self : goal.invariant_of-self
-invariant_of-self c =
-    let p = parts c.self.inside in
-    let fit = rw (← c.self.view_is) at c.closed_count-number.ensures.fit in
-    let room = rw (← c.self.view_is) at c.requires in
-    let kept_room = c.order_window.ensures.room in
-    let roomy = c.self.invariant.1 in
-    (AreKept-close p c.tick.new.self c.order_window.new.ordered.items c.order_window.new.lists.items c.in-Ok-Some.ensures.sizes (closes c) fit room (loses c) (orders c) c.self.invariant.0, omega (arith, kept_room, roomy))
-
-pub invariant_of-self-in-Ok-None : goal.invariant_of-self-in-Ok-None
-invariant_of-self-in-Ok-None c =
-    let p = parts c.self.inside in
-    let other = not_last p.windows.ticks p.windows.windows (sym c.in-Ok-None.ensures.vector ∙ c.in-Ok-None.field-0-is) in
-    (AreKept-merge p c.tick.new.self c.in-Ok-None.ensures.sizes c.in-Ok-None.ensures.ok other c.self.invariant.0, c.self.invariant.1)
-
-pub returns-in-Ok-Some-clause-ok : goal.returns-in-Ok-Some-clause-ok
-returns-in-Ok-Some-clause-ok c =
+last_steps : (c : goal.After-order_window) → after_network_tick (parts c.self.inside).chip (network_of (parts c.self.inside))
+    ≡ Some (network_of (record (parts c.self.inside) { windows = c.tick.new.self; ordered = c.order_window.new.ordered.items; unordered = c.order_window.new.lists.items }))
+last_steps c =
     let p = parts c.self.inside in
     let ticks = rw c.self.invariant.0.sizes.ticks at c.in-Ok-Some.ensures.ok in
     let is = is_last c in
     let last = rw c.self.invariant.0.sizes.ticks at is.last in
-    rw (← c.self.view_is)
-    (after_network_tick-last p.chip (network_of p) c.tick.new.self.windows ticks last
-    ∙ ap Some (closing_seen p c.tick.new.self c.order_window.new.ordered.items c.order_window.new.lists.items (closes c) (loses c) (orders c) c.self.invariant.0))
+    after_network_tick-last p.chip (network_of p) c.tick.new.self.windows ticks last
+    ∙ ap Some (closing_seen p c.tick.new.self c.order_window.new.ordered.items c.order_window.new.lists.items (closes c) (loses c) (orders c) c.self.invariant.0)
 
-pub returns-in-Ok-None-clause-ok : goal.returns-in-Ok-None-clause-ok
-returns-in-Ok-None-clause-ok c =
+other_steps : (c : goal.In-Ok-None) → after_network_tick (parts c.self.inside).chip (network_of (parts c.self.inside)) ≡ Some (network_of (record (parts c.self.inside) { windows = c.tick.new.self }))
+other_steps c =
     let p = parts c.self.inside in
     let other = not_last p.windows.ticks p.windows.windows (sym c.in-Ok-None.ensures.vector ∙ c.in-Ok-None.field-0-is) in
     let ticks = rw c.self.invariant.0.sizes.ticks at c.in-Ok-None.ensures.ok in
     let other_here = rw c.self.invariant.0.sizes.ticks at other in
     let merged = merge_is p.windows.ticks p.windows.windows c.tick.new.self.windows c.in-Ok-None.ensures.ok other in
-    rw (← c.self.view_is)
-    (after_network_tick-other p.chip (network_of p) c.tick.new.self.windows ticks other_here ∙ ap Some (windows_seen p c.tick.new.self (sym (ap (λ (w : Windows). w.posts) merged))))
+    after_network_tick-other p.chip (network_of p) c.tick.new.self.windows ticks other_here ∙ ap Some (windows_seen p c.tick.new.self (sym (ap (λ (w : Windows). w.posts) merged)))
+
+pub invariant_of-self : goal.invariant_of-self
+invariant_of-self c =
+    let p = parts c.self.inside in
+    let room = rw (← c.self.view_is) at c.requires in
+    let kept_room = c.order_window.ensures.room in
+    let roomy = c.self.invariant.1 in
+    let holds = c.network_laws.ensures.ticked p.chip (network_of p) _ c.self.invariant.0.holds (last_steps c) in
+    (AreKept-close p c.tick.new.self c.order_window.new.ordered.items c.order_window.new.lists.items c.in-Ok-Some.ensures.sizes (closes c) room (loses c) (orders c) holds c.self.invariant.0, omega (arith, kept_room, roomy))
+
+pub invariant_of-self-in-Ok-None : goal.invariant_of-self-in-Ok-None
+invariant_of-self-in-Ok-None c =
+    let p = parts c.self.inside in
+    let other = not_last p.windows.ticks p.windows.windows (sym c.in-Ok-None.ensures.vector ∙ c.in-Ok-None.field-0-is) in
+    let holds = c.network_laws.ensures.ticked p.chip (network_of p) _ c.self.invariant.0.holds (other_steps c) in
+    (AreKept-merge p c.tick.new.self c.in-Ok-None.ensures.sizes c.in-Ok-None.ensures.ok other holds c.self.invariant.0, c.self.invariant.1)
+
+pub returns-in-Ok-Some-clause-ok : goal.returns-in-Ok-Some-clause-ok
+returns-in-Ok-Some-clause-ok c = rw (← c.self.view_is) (last_steps c)
+
+pub returns-in-Ok-None-clause-ok : goal.returns-in-Ok-None-clause-ok
+returns-in-Ok-None-clause-ok c = rw (← c.self.view_is) (other_steps c)
 
 pub returns-in-Err-clause-err : goal.returns-in-Err-clause-err
 returns-in-Err-clause-err c =

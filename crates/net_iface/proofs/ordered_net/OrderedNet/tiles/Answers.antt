@@ -1,15 +1,13 @@
 use Rattle.net_iface.proofs.InsideParts.{parts}
-use Rattle.net_iface.proofs.Clauses.{network_fits, few_are_left}
-use Rattle.net_iface.proofs.Laws.{room_for_names}
+use Rattle.net_iface.proofs.Clauses.{few_are_left}
+use Rattle.net_iface.proofs.LawsOfParts.{room_for_names}
 use Rattle.net_iface.proofs.Moving.{few_moves}
 use Rattle.net_iface.proofs.OneOrders.{one_order}
 use Rattle.net_iface.proofs.ordered_net.OrderedNet.tiles.Goals as goal
 
 pub returns-clause-fits : goal.returns-clause-fits
 returns-clause-fits c =
-    let p = parts c.self.inside in
-    let fit = rw (← c.self.view_is) at c.closed_count.ensures.fit in
-    rw (← c.self.view_is) (network_fits p c.self.invariant.0 c.tiles.ensures.channels fit c.tiles.ensures.fit c.owed_laws.ensures.ahead)
+    rw (← c.self.view_is) c.self.invariant.0.holds.fits
 
 pub returns-clause-one_order : goal.returns-clause-one_order
 returns-clause-one_order c = one_order c.args.self.now.chip c.args.self.now.network (returns-clause-fits c)
@@ -18,8 +16,7 @@ pub returns-clause-few_left : goal.returns-clause-few_left
 returns-clause-few_left c =
     let p = parts c.self.inside in
     let sizes = c.self.invariant.0.sizes in
-    let fit = rw (← c.self.view_is) at c.closed_count.ensures.fit in
-    rw (← c.self.view_is) (few_are_left p c.self.invariant.0 fit (λ t. room_for_names p p.routers t c.owed_laws.ensures.room sizes.grid sizes.vcs c.tiles.ensures.channels))
+    rw (← c.self.view_is) (few_are_left p c.self.invariant.0 c.self.invariant.0.holds.fits.windows (λ t. room_for_names p p.routers t c.owed_laws.ensures.room sizes.grid sizes.vcs c.tiles.ensures.channels))
 
 pub returns-clause-moves : goal.returns-clause-moves
 returns-clause-moves c =

@@ -23,7 +23,7 @@ entry_slot-requires c =
     let g = grid c.self.inside.mesh in
     let to = c.in-Some-neighbour.to in
     let inside = neighbour_inside g c.args.r c.args.out to c.self.invariant.some (sym c.neighbour.ensures ∙ c.in-Some-neighbour.is) in
-    ap (λ net. normal_slots (channels_of net to)) c.deref-2.ensures.value ∙ normal_there g c.self.inside.vcs c.self.inside.banks.items to c.self.invariant inside
+    ap (λ net. normal_slots (channels_of net to)) c.deref-2.ensures.value ∙ normal_there g c.self.inside.vcs c.self.inside.banks.items to c.self.invariant.copies inside
 
 pub returns-in_default-entry_slot-clause-none : goal.returns-in_default-entry_slot-clause-none
 returns-in_default-entry_slot-clause-none c =

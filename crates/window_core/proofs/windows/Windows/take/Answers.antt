@@ -1,10 +1,8 @@
 use Rattle.std.proofs.Common.{◌≡◌, None, Some, refl, sym, ◌∙◌, rules, arith}
 use Rattle.std.specs.Prelude.{slice_get, option_and_then}
 use Rattle.std.proofs.lemmas.Option.{get_or_from_slice_get}
-use Rattle.mesh_gen.specs.Grid.{tiles}
-use Rattle.order_tracker.specs.Tracker.{IsWindow}
 use Rattle.window_core.proofs.Kept.{IsKept-take}
-use Rattle.window_core.proofs.Steps.{next_from, next-within, next-below, next-all, next_vector-some, after_take-some, after_take-none}
+use Rattle.window_core.proofs.Steps.{next_from, next-within, next-below, next_vector-some, after_take-some, after_take-none}
 use Rattle.window_core.proofs.windows.Windows.take.Goals as goal
 
 pub returns-in_default-clause-err : goal.returns-in_default-clause-err
@@ -58,4 +56,4 @@ returns-clause-tiles c =
     let gives : c.next_of.result ≡ option_and_then (slice_get c.self.inside.closed.items) (slice_get c.self.inside.taken.items c.args.t) = c.next_of.ensures ∙ rw (c.deref.ensures.value, c.deref-2.ensures.value) refl in
     let is : c.next_of.result ≡ Some c.in-Some.vector = search rules in
     let next = next_from c.self.inside.taken.items c.self.inside.closed.items c.args.t c.in-Some.vector (sym gives ∙ is) in
-    rw (← c.self.view_is) (next-all (IsWindow (tiles c.self.inside.latches.grid)) c.self.inside.taken.items c.self.inside.closed.items c.args.t c.in-Some.vector next c.self.invariant.0.sound.vectors)
+    rw (← c.self.view_is) (c.self.invariant.0.sound.holds.closed next.at c.in-Some.vector next.there)
