@@ -1,11 +1,13 @@
 -- The parts of a fabric, what they stand for, and what is kept of them.
 use Rattle.std.specs.Prelude.{◌≡◌, ℕ, ◌+◌, ◌^◌, ◌<◌, ◌≤◌, false, List, length}
 use Rattle.std.specs.List.{sum_by}
+use Rattle.mesh_gen.specs.Limits.{most_tiles}
 use Rattle.report_text.specs.declared.access.Access.{Access}
 use Rattle.report_text.specs.Journals.{AreEntryWords, events_of}
 use Rattle.chip_model.specs.Chip.{tile_count}
 use Rattle.chip_model.specs.OrderedNetwork.{OrderedNetwork, Interface}
 use Rattle.chip_model.specs.NetworkShape.{HasChannels}
+use Rattle.chip_model.specs.NetworkFits.{NetworkFits}
 use Rattle.net_iface.specs.OrderedNet.{NetworkState}
 use Rattle.reply_net.specs.ReplyNetwork.{ReplyNetwork}
 use Rattle.fabric_core.specs.Fabric.{FabricState}
@@ -56,3 +58,12 @@ pub record FabricKept (p : FabricParts) : Type 0 where
   pub made : made_count p.network.network ≤ length (events_of p.log.words)
   pub hops : p.hops ≤ length (events_of p.log.words)
   pub accesses : length p.accesses ≤ p.log.room
+
+-- what is true of a fabric's networks at any moment
+pub record NetworksFit (f : FabricState) : Type 0 where
+  pub some : 0 < tile_count f.chip
+  pub few : tile_count f.chip ≤ most_tiles
+  pub vcs : f.chip.vcs ≤ 8
+  pub data_vcs : f.chip.data_vcs ≤ 4
+  pub network : NetworkFits f.chip f.network
+  pub replies : HasChannels f.chip.grid f.chip.data_vcs false f.replies

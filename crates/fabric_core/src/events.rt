@@ -4,18 +4,7 @@ ghost use Rattle.fabric_core.specs.Fabric.{MayNote, fabric_after_inject, fabric_
 
 use crate::{Fabric, Made};
 use mesh_gen::{Kind, Msg, NotEnabled, Port, Request};
-use report_text::{Entry, Event};
-
-// The entry of an event.
-fn entry(who: Made, event: Event) -> Entry
-    ensures { result ≡ record { by = who.by; cores = who.cores; event = event } }
-{
-    Entry {
-        by: who.by,
-        cores: who.cores,
-        event,
-    }
-}
+use report_text::Event;
 
 // The events that touch the fabric. Each is one step of the chip, and one entry of the journal.
 impl Fabric {
@@ -27,11 +16,14 @@ impl Fabric {
         ensures err { OnErr result (fabric_after_inject who kind line self.old ≡ None) }
         ensures kept { OnErr result (self.new ≡ self.old) }
     {
-        if self.network.inject(who.by, kind, line).is_err() {
-            return Err(NotEnabled);
+        self.networks_fit();
+        match self.network.inject(who.by, kind, line) {
+            Ok(_) => {
+                self.log.note(who, Event::Inject { t: who.by });
+                Ok(())
+            }
+            Err(_) => Err(NotEnabled),
         }
-        self.log.push(entry(who, Event::Inject { t: who.by }));
-        Ok(())
     }
 
     /// The tile posts in the open window for its first request that it has not posted. Refused exactly where it has none
@@ -42,8 +34,9 @@ impl Fabric {
         ensures err { OnErr result (fabric_after_post who t self.old ≡ None) }
         ensures kept { OnErr result (self.new ≡ self.old) }
     {
+        self.networks_fit();
         self.network.post(t)?;
-        self.log.push(entry(who, Event::Post { t }));
+        self.log.note(who, Event::Post { t });
         Ok(())
     }
 
@@ -55,8 +48,9 @@ impl Fabric {
         ensures err { OnErr result (fabric_after_tick who self.old ≡ None) }
         ensures kept { OnErr result (self.new ≡ self.old) }
     {
+        self.networks_fit();
         self.network.tick()?;
-        self.log.push(entry(who, Event::Tick));
+        self.log.note(who, Event::Tick);
         Ok(())
     }
 
@@ -67,8 +61,9 @@ impl Fabric {
         ensures err { OnErr result (fabric_after_take who t self.old ≡ None) }
         ensures kept { OnErr result (self.new ≡ self.old) }
     {
+        self.networks_fit();
         self.network.take(t)?;
-        self.log.push(entry(who, Event::Take { t }));
+        self.log.note(who, Event::Take { t });
         Ok(())
     }
 
@@ -80,8 +75,9 @@ impl Fabric {
         ensures err { OnErr result (fabric_after_hop who r port slot out self.old ≡ None) }
         ensures kept { OnErr result (self.new ≡ self.old) }
     {
+        self.networks_fit();
         self.network.hop(r, port, slot, out)?;
-        self.log.push(entry(who, Event::Hop { r, port, slot, out }));
+        self.log.note(who, Event::Hop { r, port, slot, out });
         self.hops += 1;
         Ok(())
     }
@@ -95,11 +91,14 @@ impl Fabric {
         ensures err { OnErr result (fabric_after_send who r m self.old ≡ None) }
         ensures kept { OnErr result (self.new ≡ self.old) }
     {
-        if self.replies.inject(r, m).is_err() {
-            return Err(NotEnabled);
+        self.networks_fit();
+        match self.replies.inject(r, m) {
+            Ok(()) => {
+                self.log.note(who, Event::Send { t: r });
+                Ok(())
+            }
+            Err(_) => Err(NotEnabled),
         }
-        self.log.push(entry(who, Event::Send { t: r }));
-        Ok(())
     }
 
     /// The message in a channel of the router `r` goes on to the next router of its route. Refused exactly where the
@@ -110,8 +109,9 @@ impl Fabric {
         ensures err { OnErr result (fabric_after_data_hop who r port slot self.old ≡ None) }
         ensures kept { OnErr result (self.new ≡ self.old) }
     {
+        self.networks_fit();
         self.replies.hop(r, port, slot)?;
-        self.log.push(entry(who, Event::DataHop { r, port, slot }));
+        self.log.note(who, Event::DataHop { r, port, slot });
         Ok(())
     }
 
@@ -123,8 +123,9 @@ impl Fabric {
         ensures err { OnErr result (fabric_after_eject who t self.old ≡ None) }
         ensures kept { OnErr result (self.new ≡ self.old) }
     {
+        self.networks_fit();
         let q = self.network.eject(t)?;
-        self.log.push(entry(who, Event::Eject { t }));
+        self.log.note(who, Event::Eject { t });
         Ok(q)
     }
 
@@ -136,8 +137,9 @@ impl Fabric {
         ensures err { OnErr result (fabric_after_data_eject who r port slot self.old ≡ None) }
         ensures kept { OnErr result (self.new ≡ self.old) }
     {
+        self.networks_fit();
         let msg = self.replies.eject(r, port, slot)?;
-        self.log.push(entry(who, Event::DataEject { r, port, slot }));
+        self.log.note(who, Event::DataEject { r, port, slot });
         Ok(msg)
     }
 }

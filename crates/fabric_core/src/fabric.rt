@@ -1,16 +1,16 @@
 ghost use Rattle.std.specs.Prelude.{◌≡◌, ◌-◌, ◌^◌, ◌<◌, ◌≤◌, [], ◌∷◌, ◌++◌, IfOk, length};
-ghost use Rattle.report_text.specs.Journals.{events_of};
+ghost use Rattle.std.specs.List.{list_all};
 ghost use Rattle.chip_model.specs.Chip.{chip_of_mesh, tile_count};
-ghost use Rattle.chip_model.specs.NetworkFits.{NetworkFits};
-ghost use Rattle.fabric_core.specs.Fabric.{FabricState, opening_fabric, event_count, MayNote, noted, alone, is_idle};
+ghost use Rattle.fabric_core.specs.Fabric.{FabricState, opening_fabric, event_count, MayNote, noted, alone, has_delivered, is_idle};
 ghost use Rattle.fabric_core.specs.Lists.{lists_of};
+ghost use Rattle.fabric_core.specs.Parts.{NetworksFit};
 
-use crate::FabricLists;
+use crate::{FabricLists, Made};
 use crate::log::Log;
 use mesh_gen::{Items, Mesh, NoMemory};
 use net_iface::OrderedNet;
 use reply_net::Replies;
-use report_text::{Access, Entry, Event};
+use report_text::{Access, Event};
 use std::alloc::Global;
 use std::marker::Model;
 
@@ -82,17 +82,31 @@ impl Fabric {
         self.log.spare()
     }
 
+    // What is true of the networks at any moment: the events need it for their entries.
+    pub(crate) fn networks_fit(&self)
+        ensures { NetworksFit self.now }
+    {
+        self.network.tiles();
+        self.network.vcs();
+    }
+
     /// Whether every ordered request was delivered everywhere and no reply stands in a channel.
     pub fn idle(&self) -> bool
         ensures { result ≡ is_idle self.now }
     {
+        self.all_delivered() && self.replies.is_empty()
+    }
+
+    // Whether every ordered request was delivered everywhere.
+    fn all_delivered(&self) -> bool
+        ensures { result ≡ list_all (has_delivered (length self.now.network.ordered)) self.now.network.interfaces }
+    {
         let ordered = self.network.order().len() as u64;
+        let mut all = true;
         for t in 0..self.network.tiles() {
-            if self.network.delivered(t) != ordered {
-                return false;
-            }
+            all = all && self.network.delivered(t) == ordered;
         }
-        self.replies.is_empty()
+        all
     }
 
     /// A core event of a tile, which touches nothing of the fabric, is noted.
@@ -100,11 +114,8 @@ impl Fabric {
         requires { MayNote (alone t) self.old }
         ensures { self.new ≡ noted (alone t) (Event.Core t) self.old }
     {
-        self.log.push(Entry {
-            by: t,
-            cores: 0,
-            event: Event::Core { t },
-        });
+        self.networks_fit();
+        self.log.note(Made { by: t, cores: 0 }, Event::Core { t });
     }
 
     /// An access that a core performed is noted.

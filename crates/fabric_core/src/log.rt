@@ -1,9 +1,11 @@
 ghost use Rattle.std.specs.Prelude.{◌≡◌, ◌+◌, ◌-◌, ◌^◌, ◌<◌, ◌≤◌, [], ◌∷◌, ◌++◌, IfOk, length};
 ghost use Rattle.report_text.specs.Entry.{IsValid, packed};
 ghost use Rattle.report_text.specs.Journals.{AreEntryWords, events_of};
+ghost use Rattle.fabric_core.specs.Fabric.{entry_word};
 
+use crate::Made;
 use mesh_gen::NoMemory;
-use report_text::{Entry, Journal, entry_laws};
+use report_text::{Entry, Event, Journal, entry_laws};
 use std::alloc::Global;
 use std::marker::Model;
 
@@ -67,11 +69,26 @@ impl Log {
         self.room - self.events
     }
 
-    /// One entry more.
-    pub(crate) fn push(&mut self, entry: Entry)
+    /// An event notes itself: one entry more.
+    pub(crate) fn note(&mut self, who: Made, event: Event)
+        requires valid { IsValid (record { by = who.by; cores = who.cores; event = event }) }
+        requires room { length (events_of self.old.words) + who.cores + 1 ≤ self.old.room }
+        ensures log { self.new ≡ record self.old { words = self.old.words ++ entry_word who event ∷ [] } }
+        ensures events { length (events_of self.new.words) ≡ length (events_of self.old.words) + who.cores + 1 }
+    {
+        self.push(Entry {
+            by: who.by,
+            cores: who.cores,
+            event,
+        });
+    }
+
+    // One entry more.
+    fn push(&mut self, entry: Entry)
         requires valid { IsValid entry }
         requires room { length (events_of self.old.words) + entry.cores + 1 ≤ self.old.room }
-        ensures { self.new ≡ record self.old { words = self.old.words ++ packed entry ∷ [] } }
+        ensures log { self.new ≡ record self.old { words = self.old.words ++ packed entry ∷ [] } }
+        ensures events { length (events_of self.new.words) ≡ length (events_of self.old.words) + entry.cores + 1 }
     {
         entry_laws();
         self.words.push_reserved(entry.pack());
