@@ -1,14 +1,17 @@
 -- What the steps of a fabric's networks keep.
-use Rattle.std.proofs.Common.{◌≡◌, ℕ, ◌+◌, ◌≤◌, false, [], ◌∷◌, ◌++◌, length, refl, sym, ◌∙◌, ap, subst, arith, Some, length-append}
+use Rattle.std.proofs.Common.{◌≡◌, ℕ, zero, suc, replicate, ◌+◌, ◌≤◌, false, [], ◌∷◌, ◌++◌, length, refl, sym, ◌∙◌, ap, subst, arith, Some, length-append}
 use Rattle.std.specs.List.{sum_by}
+use Rattle.std.proofs.lemmas.List.Sums.{sum_by-cons}
 use Rattle.mesh_gen.specs.declared.kind.Kind.{Kind}
 use Rattle.mesh_gen.specs.declared.port.Port.{Port}
 use Rattle.mesh_gen.specs.declared.request.Request.{Request}
 use Rattle.report_text.specs.Journals.{events_of}
-use Rattle.chip_model.specs.Chip.{Chip}
+use Rattle.chip_model.specs.Chip.{Chip, tile_count}
 use Rattle.chip_model.specs.OrderedNetwork.{OrderedNetwork, Interface, next_request, after_inject, after_request_post, after_network_tick, after_vector_take, after_copy_hop, after_delivery}
+use Rattle.chip_model.specs.Replies.{no_replies}
 use Rattle.chip_model.specs.NetworkShape.{HasChannels}
-use Rattle.net_iface.specs.OrderedNet.{NetworkState, SameSizes}
+use Rattle.chip_model.proofs.ChannelPuts.{HasChannels-empty}
+use Rattle.net_iface.specs.OrderedNet.{NetworkState, SameSizes, opening_state}
 use Rattle.net_iface.proofs.StepParts.{request_made, request_posted, network_ticked, vector_taken, copy_moved, request_delivered}
 use Rattle.reply_net.specs.ReplyNetwork.{ReplyNetwork}
 use Rattle.fabric_core.specs.Parts.{FabricParts, LogState, FabricKept, made_count}
@@ -68,3 +71,26 @@ kept-replies p replies log kept grid room more channels = record {
   hops = omega (arith, kept.hops, more);
   accesses = omega (arith, kept.accesses, room);
 }
+
+-- ---- before any event
+
+pub kept-opening : (chip : Chip) (room : ℕ) → chip.data_vcs ≤ 4 → FabricKept (record {
+  network = opening_state chip (room + tile_count chip);
+  replies = record { grid = chip.grid; messages = no_replies chip.grid chip.data_vcs };
+  log = record { words = []; room = room };
+  accesses = [];
+  hops = 0;
+})
+kept-opening chip room few = record {
+  grid = refl;
+  channels = HasChannels-empty chip.grid chip.data_vcs false;
+  data_vcs = few;
+  network_room = refl;
+  made = none (tile_count chip);
+  hops = omega arith;
+  accesses = omega arith;
+}
+  where
+    none : (n : ℕ) → sum_by made_by (replicate n (record { made = []; posted = 0; delivered = 0 })) ≤ 0
+    none zero = omega arith
+    none (suc n) = omega (arith, sum_by-cons made_by (record { made = []; posted = 0; delivered = 0 }) (replicate n (record { made = []; posted = 0; delivered = 0 })), none n)

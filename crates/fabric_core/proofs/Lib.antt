@@ -4,3 +4,4 @@ pub mod Channels
 pub mod Entries
 pub mod Kept
 pub mod Steps
+pub mod Idle

@@ -1,4 +1,4 @@
-use Rattle.std.proofs.Common.{arith, ap}
+use Rattle.std.proofs.Common.{◌+◌, arith, ap}
 use Rattle.fabric_core.specs.Fabric.{fabric_after_hop}
 use Rattle.fabric_core.specs.Parts.{fabric_of_parts, LogState}
 use Rattle.net_iface.proofs.Steps.{on_err}
