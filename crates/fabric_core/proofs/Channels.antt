@@ -1,15 +1,14 @@
 -- The channels of networks: what each step of the replies keeps of them, and that there are few.
-use Rattle.std.proofs.Common.{◌≡◌, ℕ, zero, suc, ◌+◌, ◌<◌, ◌≤◌, Bool, true, false, cond, List, [], length, refl, sym, ap, subst, inl, inr, arith, Option, Some, None, get_or}
-use Rattle.std.specs.Prelude.{slice_get}
+use Rattle.std.proofs.Common.{◌≡◌, ℕ, zero, suc, ◌+◌, ◌<◌, ◌≤◌, Bool, true, false, cond, [], length, sym, ap, subst, inl, inr, arith, Option, Some, None}
 use Rattle.std.proofs.lemmas.Bool.{cases_lt}
 use Rattle.std.proofs.lemmas.List.{length-replicate, get_or_past}
 use Rattle.std.proofs.lemmas.Option.{option_and_then_some, same_Some, slice_get-get_or}
 use Rattle.mesh_gen.specs.declared.msg.Msg.{Msg}
 use Rattle.mesh_gen.specs.declared.port.Port.{Port}
 use Rattle.mesh_gen.specs.declared.port.Port.TheVariants.{L}
-use Rattle.mesh_gen.specs.Grid.{Grid, tiles}
+use Rattle.mesh_gen.specs.Grid.{Grid}
 use Rattle.mesh_gen.specs.Ports.{port_number}
-use Rattle.vc_bank.specs.Channels.{Channels, slots_at, empty_channels, lowest_free}
+use Rattle.vc_bank.specs.Channels.{slots_at, empty_channels, lowest_free}
 use Rattle.vc_bank.specs.Places.{Network, slots, at, put, HasPlace}
 use Rattle.vc_bank.proofs.PlaceLaws.{place_of, length-slots-put}
 use Rattle.chip_model.specs.declared.channel.Channel.{Channel}

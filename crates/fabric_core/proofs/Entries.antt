@@ -1,11 +1,10 @@
 -- Entries are valid: what an event names is on the chip.
-use Rattle.std.proofs.Common.{◌≡◌, ◌≢◌, ℕ, ◌+◌, ◌<◌, ◌≤◌, Bool, true, false, length, subst, sym, ap, arith, Option, Some, None}
+use Rattle.std.proofs.Common.{◌≡◌, ◌≢◌, ℕ, ◌<◌, ◌≤◌, Bool, true, false, length, subst, ap, arith, Option, Some, None}
 use Rattle.std.specs.Prelude.{slice_get}
 use Rattle.std.proofs.lemmas.Option.{slice_get_within, option_and_then_some}
-use Rattle.mesh_gen.specs.declared.kind.Kind.{Kind}
 use Rattle.mesh_gen.specs.declared.msg.Msg.{Msg}
 use Rattle.mesh_gen.specs.declared.port.Port.{Port}
-use Rattle.mesh_gen.specs.declared.port.Port.TheVariants.{L, E, W, N, S}
+use Rattle.mesh_gen.specs.declared.port.Port.TheVariants.{L}
 use Rattle.mesh_gen.specs.declared.request.Request.{Request}
 use Rattle.mesh_gen.specs.Grid.{Grid, neighbour}
 use Rattle.mesh_gen.specs.Ports.{port_number, opposite}
@@ -18,10 +17,9 @@ use Rattle.report_text.specs.Entry.{IsValid}
 use Rattle.report_text.specs.Events.{IsWithinLimits}
 use Rattle.chip_model.specs.declared.net_copy.NetCopy.{NetCopy}
 use Rattle.chip_model.specs.Partial.{when, ◌>>=◌}
-use Rattle.chip_model.specs.Chip.{tile_count}
 use Rattle.chip_model.specs.Windows.{Windows, after_take}
 use Rattle.chip_model.specs.Copies.{Name, channels_of, owes, entry_slot, expects, left_by, arriving, after_hop}
-use Rattle.chip_model.specs.OrderedNetwork.{OrderedNetwork, after_inject, after_request_post, after_network_tick, after_vector_take, after_copy_hop, after_delivery}
+use Rattle.chip_model.specs.OrderedNetwork.{OrderedNetwork, after_request_post, after_vector_take, after_copy_hop, after_delivery}
 use Rattle.chip_model.specs.Replies.{after_send, next_channel, after_data_hop, after_data_eject}
 use Rattle.net_iface.proofs.StepParts.{request_posted, vector_taken, copy_moved, request_delivered}
 use Rattle.reply_net.proofs.Steps.{free_found, free_place}

@@ -1,5 +1,5 @@
 -- Whether every tile has delivered as many requests as there are, tile by tile.
-use Rattle.std.proofs.Common.{◌≡◌, ℕ, ◌+◌, ◌<◌, Bool, [], List, length, map, sym, ◌∙◌, ap, get_or}
+use Rattle.std.proofs.Common.{◌≡◌, ℕ, ◌+◌, ◌<◌, Bool, [], List, length, map, sym, ◌∙◌, ap}
 use Rattle.std.specs.Prelude.{take, slice_index, ◌==◌, ◌&&◌}
 use Rattle.std.specs.List.{list_all}
 use Rattle.std.proofs.lemmas.List.{get_or-map}

@@ -1,7 +1,7 @@
 -- No more requests are ordered than the tiles made: of each tile no more are ordered than it made.
-use Rattle.std.proofs.Common.{◌≡◌, ℕ, zero, suc, ◌+◌, ◌<◌, ◌≤◌, cond, List, [], ◌∷◌, length, refl, sym, ◌∙◌, ap, subst, arith, Some, set, get_or}
+use Rattle.std.proofs.Common.{◌≡◌, ℕ, suc, ◌+◌, ◌<◌, ◌≤◌, cond, List, [], ◌∷◌, length, refl, ◌∙◌, ap, arith, Some, set, get_or}
 use Rattle.std.specs.Prelude.{slice_get, nat_le, ◌==◌}
-use Rattle.std.specs.List.{count_by, sum_by, AllByRecursion}
+use Rattle.std.specs.List.{sum_by, AllByRecursion}
 use Rattle.std.proofs.lemmas.Bool.Decides.{nat_tests}
 use Rattle.std.proofs.lemmas.List.{length-map}
 use Rattle.std.proofs.lemmas.List.Sums.{sum_by-cons, sum_by-set}
@@ -28,8 +28,14 @@ one_apart a s = grind (arith, nat_tests)
 above-split : (a : ℕ) (xs : List ℕ) → above a xs ≡ times a xs + above (suc a) xs
 above-split a [] = refl
 above-split a (s ∷ xs) =
-    omega (arith, sum_by-cons (λ s. cond (nat_le a s) 1 0) s xs, sum_by-cons (λ s. cond (s == a) 1 0) s xs, sum_by-cons (λ s. cond (nat_le (suc a) s) 1 0) s xs,
-    one_apart a s, above-split a xs)
+    omega (
+      arith,
+      sum_by-cons (λ s. cond (nat_le a s) 1 0) s xs,
+      sum_by-cons (λ s. cond (s == a) 1 0) s xs,
+      sum_by-cons (λ s. cond (nat_le (suc a) s) 1 0) s xs,
+      one_apart a s,
+      above-split a xs,
+    )
 
 none_above : (n : ℕ) (xs : List ℕ) → AllByRecursion (λ t. t < n) xs → above n xs ≡ 0
 none_above n [] all = refl

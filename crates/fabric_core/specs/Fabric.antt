@@ -1,6 +1,6 @@
 -- The fabric of a chip: all that its tiles share. It is both networks, the journal in packed words, the accesses in the
 -- order in which they were performed, and the number of hops; each event that touches it notes itself.
-use Rattle.std.specs.Prelude.{◌≡◌, ◌*◌, ℕ, ◌+◌, ◌<◌, ◌≤◌, ◌==◌, Bool, ◌&&◌, List, [], ◌∷◌, ◌++◌, length, Option, Some}
+use Rattle.std.specs.Prelude.{ℕ, ◌+◌, ◌<◌, ◌≤◌, ◌==◌, Bool, ◌&&◌, List, [], ◌∷◌, ◌++◌, length, Option, Some}
 use Rattle.std.specs.List.{list_all}
 use Rattle.mesh_gen.specs.declared.kind.Kind.{Kind}
 use Rattle.mesh_gen.specs.declared.msg.Msg.{Msg}
@@ -9,7 +9,7 @@ use Rattle.mesh_gen.specs.declared.request.Request.{Request}
 use Rattle.vc_bank.specs.Places.{Network}
 use Rattle.report_text.specs.declared.access.Access.{Access}
 use Rattle.report_text.specs.declared.event.Event.{Event}
-use Rattle.report_text.specs.declared.event.Event.TheVariants.{Tick, Core, Inject, Post, Take, Eject, Send, Hop, DataHop, DataEject}
+use Rattle.report_text.specs.declared.event.Event.TheVariants.{Tick, Inject, Post, Take, Eject, Send, Hop, DataHop, DataEject}
 use Rattle.report_text.specs.Entry.{packed}
 use Rattle.report_text.specs.Journals.{events_of}
 use Rattle.chip_model.specs.Partial.{◌>>=◌}

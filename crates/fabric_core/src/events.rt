@@ -69,7 +69,14 @@ impl Fabric {
 
     /// A copy of a request leaves a channel of the router `r` by an output port that it owes, and comes to the next router.
     /// Refused exactly where the channel holds no such copy, no router is next there, or that has no channel for it.
-    pub fn hop(&mut self, who: Made, r: u8, port: Port, slot: u8, out: Port) -> Result<(), NotEnabled>
+    pub fn hop(
+        &mut self,
+        who: Made,
+        r: u8,
+        port: Port,
+        slot: u8,
+        out: Port,
+    ) -> Result<(), NotEnabled>
         requires { MayNote who self.old }
         ensures ok { OnOk result (fabric_after_hop who r port slot out self.old ≡ Some self.new) }
         ensures err { OnErr result (fabric_after_hop who r port slot out self.old ≡ None) }

@@ -5,8 +5,8 @@ ghost use Rattle.fabric_core.specs.Fabric.{FabricState, opening_fabric, event_co
 ghost use Rattle.fabric_core.specs.Lists.{lists_of};
 ghost use Rattle.fabric_core.specs.Parts.{NetworksFit};
 
-use crate::{FabricLists, Made};
 use crate::log::Log;
+use crate::{FabricLists, Made};
 use mesh_gen::{Items, Mesh, NoMemory};
 use net_iface::OrderedNet;
 use reply_net::Replies;

@@ -1,6 +1,6 @@
 use Rattle.std.proofs.Common.{arith, ap}
 use Rattle.fabric_core.specs.Fabric.{fabric_after_inject}
-use Rattle.fabric_core.specs.Parts.{fabric_of_parts, LogState}
+use Rattle.fabric_core.specs.Parts.{LogState}
 use Rattle.fabric_core.proofs.Inside.{parts}
 use Rattle.fabric_core.proofs.Entries.{inject_valid}
 use Rattle.fabric_core.proofs.Kept.{made_count-inject, kept-network}

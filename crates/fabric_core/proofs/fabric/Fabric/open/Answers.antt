@@ -1,4 +1,3 @@
-use Rattle.std.proofs.Common.{arith}
 use Rattle.chip_model.specs.Chip.{chip_of_mesh}
 use Rattle.fabric_core.proofs.Kept.{kept-opening}
 use Rattle.fabric_core.proofs.fabric.Fabric.open.Goals as goal
