@@ -1,0 +1,8 @@
+use Rattle.std.proofs.Common.{◌∙◌}
+use Rattle.fabric_core.specs.Fabric.{fabric_after_tick}
+use Rattle.fabric_core.proofs.Steps.{is_some-step}
+use Rattle.fabric_core.proofs.fabric.Fabric.can_tick.Goals as goal
+
+pub returns : goal.returns
+unfolding fabric_after_tick
+returns c = rw (← c.self.view_is) (c.can_tick.ensures ∙ is_some-step _ _)
