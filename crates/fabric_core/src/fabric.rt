@@ -71,7 +71,10 @@ impl Fabric {
     pub fn length(&self) -> u64
         ensures length { result ≡ event_count self.now }
         ensures within { result ≤ self.now.room }
+        // There are tiles.
+        ensures tiles { 0 < tile_count self.now.chip }
     {
+        self.networks_fit();
         self.log.length()
     }
 

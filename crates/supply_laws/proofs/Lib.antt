@@ -1,3 +1,4 @@
+pub mod KeptOrders
 pub mod LastPlaces
 pub mod OwnerGets
 pub mod WriteBackPlaces

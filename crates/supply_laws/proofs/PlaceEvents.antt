@@ -35,7 +35,8 @@ use Rattle.chip_laws.specs.DocFits.{DocFits}
 use Rattle.chip_laws.specs.EventSteps.{ChangesNetwork, ChangesUnit, EventDoes}
 use Rattle.chip_laws.specs.Meetings.{UnitsFit}
 use Rattle.chip_laws.proofs.Deliveries.{deliveries_fit}
-use Rattle.chip_laws.proofs.OrderGrows.{injected_order, posted_order, taken_order, hopped_order, delivered_order}
+use Rattle.chip_laws.proofs.OrderGrows.{injected_order, delivered_order}
+use Rattle.supply_laws.proofs.KeptOrders.{posted_order, taken_order, hopped_order}
 use Rattle.chip_laws.proofs.OrderFrames.{holds_at}
 use Rattle.chip_laws.proofs.SupplyBounds.{one_open}
 use Rattle.chip_laws.proofs.SupplyFrames.{count_here, count_there}

@@ -36,7 +36,7 @@ use Rattle.chip_laws.proofs.SuppliedEvents.{Holds, unit_holds, delivered_within}
 use Rattle.chip_laws.proofs.TileAgreements.{keeps_of, own_request_fits}
 use Rattle.chip_laws.proofs.RequestsInside.{tile_of, tiles_some, request_inside}
 use Rattle.chip_laws.proofs.NetworkFrames.{injected_sets, delivered_sets}
-use Rattle.chip_laws.proofs.OrderGrows.{posted_order, taken_order, hopped_order}
+use Rattle.supply_laws.proofs.KeptOrders.{posted_order, taken_order, hopped_order}
 use Rattle.supply_laws.proofs.WordsDue.{due, backs_in_channels, channels_same, units_counts, due_unchanged, due_stepped, due_delivered, due_comes}
 use Rattle.supply_laws.proofs.WriteBackSends.{backs_in}
 use Rattle.supply_laws.proofs.Ticked.{accords_of, ticked}
