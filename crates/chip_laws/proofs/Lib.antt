@@ -25,6 +25,7 @@ pub mod SupplyToCome
 pub mod SupplyBounds
 pub mod SupplyDeliveries
 pub mod SupplyFrames
+pub mod ArrivedMessages
 pub mod Supplied
 pub mod SuppliedComes
 pub mod SuppliedOpening

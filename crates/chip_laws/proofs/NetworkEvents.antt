@@ -22,6 +22,7 @@ use Rattle.chip_laws.specs.DocFits.{DocFits}
 use Rattle.chip_laws.specs.EventSteps.{EventDoes}
 use Rattle.chip_laws.specs.QueuedMessages.{QueuesFit}
 use Rattle.chip_laws.proofs.EventSteps.{event_does}
+use Rattle.chip_laws.proofs.ArrivedMessages.{replies_of}
 
 -- what the steps of the two networks keep
 pub record NetworkLaws : Type 0 where
@@ -45,9 +46,6 @@ joined d s ordered replies = record { requests = ordered.fits; took = ordered.to
 
 requests_of : (d : Doc) (s : ChipState) → NetworkHolds d s → OrderedNetworkHolds (chip_of d) s.network
 requests_of d s holds = record { fits = holds.requests; took = holds.took }
-
-replies_of : (d : Doc) (s : ChipState) → NetworkHolds d s → MessagesHold (chip_of d) s.replies
-replies_of d s holds = record { channels = holds.replies; routes = holds.routes; messages = holds.messages }
 
 pub network_opened : NetworkLaws → (d : Doc) → DocFits d → NetworkHolds d (opening d)
 network_opened laws d fits = joined d (opening d) (laws.opened (chip_of d) fits.chip.window) (laws.no_message (chip_of d))

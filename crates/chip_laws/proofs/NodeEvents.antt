@@ -23,7 +23,7 @@ use Rattle.chip_model.specs.ChipState.{ChipState}
 use Rattle.chip_model.specs.NodeShape.{LinesFit}
 use Rattle.chip_model.specs.BehaviourLaws.{KeepsLaws, Works}
 use Rattle.chip_model.specs.ChipInvariant.{NodeHolds, ProtocolHolds}
-use Rattle.chip_laws.specs.DocFits.{DocFits}
+use Rattle.chip_laws.specs.DocLaws.{DocLaws}
 use Rattle.chip_laws.specs.Meetings.{DeliveriesFit, ArrivalsFit, NodesHold, UnitsFit}
 use Rattle.chip_laws.specs.EventSteps.{ChangesUnit, CoreWorks, RequestEnters, RequestComes, MessageEnters, MessageComes, EventDoes}
 use Rattle.chip_laws.proofs.Options.{none_some, bind, when_some}
@@ -117,7 +117,8 @@ inject_nodes d s new t holds does =
     (request_sent_keeps (chip_of d) s.network t interface later does.unit.node does.kind does.line (holds.network.requests.agree t interface sets.1.at) does.wants below refl refl before)
 
 -- ---- a request is delivered
-eject_nodes : (b : Behaviour) (laws : KeepsLaws b) (d : Doc) (s new : ChipState) (t : ℕ) → DocFits d → ProtocolHolds d s → UnitsFit b laws s → DeliveriesFit d s → RequestComes b (chip_of d) s new t → NodesHold d new
+eject_nodes : (b : Behaviour) (laws : KeepsLaws b) (d : Doc) (s new : ChipState) (t : ℕ) → DocLaws d → ProtocolHolds d s → UnitsFit b laws s → DeliveriesFit d s → RequestComes b (chip_of d) s new t
+    → NodesHold d new
 eject_nodes b laws d s new t fits holds fit next does =
     let q = does.request in
     let sets = delivered_sets (chip_of d) s.network new.network t q does.network in
@@ -146,7 +147,7 @@ received_stands net new r port slot msg e =
     when_some {X = Msg × Network Msg} (m.to == r) (Some (out m)) (msg, new) here (λ goes same.
     stands ∙ ap (λ (x : Msg × Network Msg). Some x.0) (same_Some {A = Msg × Network Msg} (out m) (msg, new) same)))
 
-data_nodes : (b : Behaviour) (laws : KeepsLaws b) (d : Doc) (s new : ChipState) (t : ℕ) (port : Port) (slot : ℕ) → DocFits d → ProtocolHolds d s → UnitsFit b laws s → ArrivalsFit s
+data_nodes : (b : Behaviour) (laws : KeepsLaws b) (d : Doc) (s new : ChipState) (t : ℕ) (port : Port) (slot : ℕ) → DocLaws d → ProtocolHolds d s → UnitsFit b laws s → ArrivalsFit s
     → MessageComes b s new t port slot → NodesHold d new
 data_nodes b laws d s new t port slot fits holds fit arrive does =
     let msg = does.msg in
@@ -164,7 +165,7 @@ network_nodes : (d : Doc) (s new : ChipState) → ProtocolHolds d s → new.netw
 network_nodes d s new holds network units =
     grown_nodes d s new holds (unchanged_views s.network new.network (ap (λ (net : OrderedNetwork). net.ordered) network) (ap (λ (net : OrderedNetwork). net.interfaces) network)) units
 
-pub nodes_hold : (b : Behaviour) (laws : KeepsLaws b) (d : Doc) (s new : ChipState) (event : Event) → DocFits d → ProtocolHolds d s → UnitsFit b laws s → DeliveriesFit d s → ArrivalsFit s
+pub nodes_hold : (b : Behaviour) (laws : KeepsLaws b) (d : Doc) (s new : ChipState) (event : Event) → DocLaws d → ProtocolHolds d s → UnitsFit b laws s → DeliveriesFit d s → ArrivalsFit s
     → EventDoes b (chip_of d) s new event → NodesHold d new
 nodes_hold b laws d s new Tick fits holds fit next arrive does = grown_nodes d s new holds (ticked_views (chip_of d) s.network new.network does.network) does.units
 nodes_hold b laws d s new (Core t) fits holds fit next arrive does = core_nodes b laws d s new t holds fit does

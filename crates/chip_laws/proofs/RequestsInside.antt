@@ -4,7 +4,6 @@ use Rattle.std.specs.Prelude.{◌==◌, ◌&&◌, slice_index_or, filter}
 use Rattle.std.specs.List.{AllByRecursion}
 use Rattle.std.proofs.lemmas.Option.{slice_get_within}
 use Rattle.mesh_gen.specs.declared.request.Request.{Request}
-use Rattle.mesh_gen.proofs.OneTile.{product_positive}
 use Rattle.report_text.specs.declared.access.AccessKind.{AccessKind}
 use Rattle.report_text.specs.declared.access.AccessKind.TheVariants.{Load, Store, Swap, Add}
 use Rattle.doc_text.specs.Doc.{Doc}
@@ -22,9 +21,8 @@ use Rattle.chip_model.specs.Bookkeeping.{is_get, count_by_tile, between, up_to_g
 use Rattle.chip_model.specs.Suppliers.{last_written_back, has_reached_memory, waiters_after, WaitersAreGets}
 use Rattle.chip_model.specs.NetworkFits.{InterfaceAgrees}
 use Rattle.chip_model.specs.ChipInvariant.{UnitHolds, ProtocolHolds}
-use Rattle.net_iface.proofs.Entries.{source_below}
 use Rattle.net_iface.proofs.Places.{item_at}
-use Rattle.chip_laws.specs.DocFits.{DocFits}
+use Rattle.chip_laws.specs.DocLaws.{DocLaws}
 use Rattle.chip_laws.proofs.Each.{each_from, each_filter, each_between, each_up_to_getm, waiting_inside}
 use Rattle.chip_laws.proofs.NodeMessages.{AreInside, RequestInside, SendsFit}
 use Rattle.chip_laws.proofs.TileAgreements.{next_made}
@@ -55,14 +53,11 @@ tile_of d s t holds inside =
 pub tile_of_unit : (d : Doc) (s : ChipState) (t : ℕ) (unit : UnitState) → ProtocolHolds d s → slice_get s.units t ≡ Some unit → t < tile_count (chip_of d)
 tile_of_unit d s t unit holds at = omega (arith, slice_get_within s.units t unit at, holds.units)
 
-pub tiles_some : (d : Doc) → DocFits d → 0 < tile_count (chip_of d)
-tiles_some d fits = product_positive d.cols d.rows fits.chip.tiles.some_column fits.chip.tiles.some_row
-
-pub source_inside : (d : Doc) (s : ChipState) (place : ℕ) (q : Request) → DocFits d → ProtocolHolds d s → slice_get s.network.ordered place ≡ Some q → q.source < tile_count (chip_of d)
-source_inside d s place q fits holds at = source_below (tile_count (chip_of d)) s.network.ordered s.network.windows.closed place q (tiles_some d fits) holds.network.requests.ordered at
+pub source_inside : (d : Doc) (s : ChipState) (place : ℕ) (q : Request) → DocLaws d → ProtocolHolds d s → slice_get s.network.ordered place ≡ Some q → q.source < tile_count (chip_of d)
+source_inside d s place q fits holds at = fits.inside s.network place q holds.network.requests at
 
 -- an ordered request is of a tile and for a line
-pub request_inside : (d : Doc) (s : ChipState) (place : ℕ) (q : Request) → DocFits d → ProtocolHolds d s → slice_get s.network.ordered place ≡ Some q → RequestInside (chip_of d) q
+pub request_inside : (d : Doc) (s : ChipState) (place : ℕ) (q : Request) → DocLaws d → ProtocolHolds d s → slice_get s.network.ordered place ≡ Some q → RequestInside (chip_of d) q
 request_inside d s place q fits holds at =
     let inside = source_inside d s place q fits holds at in
     let tile = tile_of d s q.source holds inside in
@@ -75,7 +70,7 @@ request_inside d s place q fits holds at =
 abbrev Sources : Doc → List Request → Type 0
 Sources d requests = AllByRecursion (λ (q : Request). q.source < tile_count (chip_of d)) requests
 
-sources_inside : (d : Doc) (s : ChipState) → DocFits d → ProtocolHolds d s → Sources d s.network.ordered
+sources_inside : (d : Doc) (s : ChipState) → DocLaws d → ProtocolHolds d s → Sources d s.network.ordered
 sources_inside d s fits holds =
     each_from (λ (q : Request). q.source < tile_count (chip_of d)) s.network.ordered (λ place q at. source_inside d s place q fits holds at)
 
@@ -100,9 +95,10 @@ list_by d ordered node demand Store (Some g) all fits kind is follows = subst (A
 list_by d ordered node demand Swap (Some g) all fits kind is follows = subst (AreInside (chip_of d)) (sym ((follows g is).list kind)) (waiting_after d ordered _ g node.delivered all)
 list_by d ordered node demand Add (Some g) all fits kind is follows = subst (AreInside (chip_of d)) (sym ((follows g is).list kind)) (waiting_after d ordered _ g node.delivered all)
 
-pub sends_fit : (d : Doc) (s : ChipState) (node : Node) → DocFits d → ProtocolHolds d s → node.chip ≡ chip_of d → NodeFits node → DemandIsFollowed s.network.ordered node → SendsFit (chip_of d) node.side
+pub sends_fit : (d : Doc) (s : ChipState) (node : Node) → DocLaws d → ProtocolHolds d s → node.chip ≡ chip_of d → NodeFits node → DemandIsFollowed s.network.ordered node
+    → SendsFit (chip_of d) node.side
 sends_fit d s node fits holds chip is followed = record {
-  controllers = fits.chip.controllers;
+  controllers = fits.doc.chip.controllers;
   demand = λ demand stands. subst (λ (c : Chip). demand.line < c.lines) chip (is.lines.demand demand stands);
   list = λ demand stands. list_by d s.network.ordered node demand demand.pending.kind demand.ordered (sources_inside d s fits holds) (is.side.demand demand stands)
       (is.side.demand demand stands).asks refl (λ g ordered. followed demand g stands ordered);
@@ -118,7 +114,7 @@ waiters_after_inside d s node line (Some place) all = by (has_reached_memory s l
   by true = _
   by false = waiting_after d s.network.ordered (λ (q : Request). is_get q.kind && (q.line == line)) place node.delivered all
 
-pub waiters_inside : (d : Doc) (s : ChipState) (node : Node) (line : ℕ) (r : LineRecord) → DocFits d → ProtocolHolds d s → WaitersAreGets s node → slice_index_or node.records line None ≡ Some r
+pub waiters_inside : (d : Doc) (s : ChipState) (node : Node) (line : ℕ) (r : LineRecord) → DocLaws d → ProtocolHolds d s → WaitersAreGets s node → slice_index_or node.records line None ≡ Some r
     → AreInside (chip_of d) r.waiters
 waiters_inside d s node line r fits holds waiters at = subst (AreInside (chip_of d)) (sym (waiters line r at)) (by r.fresh) where
   by : (fresh : Bool) → AreInside (chip_of d) (cond {A = List Waiting} fresh [] (waiters_after s node line (last_written_back line (delivered_to s.network.ordered node))))

@@ -17,8 +17,8 @@ use Rattle.chip_model.specs.Units.{UnitState}
 use Rattle.chip_model.specs.ChipState.{ChipState}
 use Rattle.chip_model.specs.Bookkeeping.{is_get_of}
 use Rattle.chip_model.specs.Suppliers.{count_of, delivered_at, is_data_for, promised_by, data_in_channels, answers_to_come, IsSupplied}
-use Rattle.reply_net.proofs.Accounts.{Nearer, total-after_send, total-after_data_hop}
 use Rattle.chip_laws.specs.EventSteps.{ChangesUnit}
+use Rattle.chip_laws.specs.MessageLaws.{MessageLaws}
 use Rattle.chip_laws.proofs.UnitFrames.{each_unit, same_units}
 use Rattle.chip_laws.proofs.SupplyCounts.{count_by-append}
 use Rattle.chip_laws.proofs.SupplySends.{SameOpen}
@@ -42,11 +42,11 @@ pub supplied_network : (chip : Chip) (s new : ChipState) → new.units ≡ s.uni
 supplied_network chip s new units order replies = supplied_same chip s new units order (λ t. same_channels s new t replies)
 
 -- a message goes on
-pub supplied_hop : (chip : Chip) (s new : ChipState) (r : ℕ) (port : Port) (slot : ℕ) → Nearer → HasTiles chip.grid → after_data_hop chip.grid s.replies r port slot ≡ Some new.replies
+pub supplied_hop : (chip : Chip) (s new : ChipState) (r : ℕ) (port : Port) (slot : ℕ) → MessageLaws → HasTiles chip.grid → after_data_hop chip.grid s.replies r port slot ≡ Some new.replies
     → new.units ≡ s.units → new.network ≡ s.network → EachIsSupplied chip s → EachIsSupplied chip new
-supplied_hop chip s new r port slot nearer some moved units network =
+supplied_hop chip s new r port slot messages some moved units network =
     supplied_same chip s new units (ap (λ (net : OrderedNetwork). net.ordered) network) (λ t.
-    total-after_data_hop (λ msg. count_if (is_data_for t msg)) chip.grid s.replies new.replies r port slot nearer some moved)
+    messages.keeps (λ msg. count_if (is_data_for t msg)) chip.grid s.replies new.replies r port slot some moved)
 
 -- ---- the order grows
 pub record Grows (s new : ChipState) (more : List Request) : Type 0 where
@@ -96,10 +96,10 @@ supplied_quiet chip s new u unit after c order replies same =
     supplied_step chip s new u unit after c order same.stays same.delivered (λ t. omega (arith, same.promises t, same_channels s new t replies))
 
 -- the first message of a queue enters the network
-pub supplied_sent : (chip : Chip) (s new : ChipState) (u : ℕ) (unit after : UnitState) (msg : Msg) → ChangesUnit s new u unit after → after.node ≡ after_message_sent unit.node
+pub supplied_sent : MessageLaws → (chip : Chip) (s new : ChipState) (u : ℕ) (unit after : UnitState) (msg : Msg) → ChangesUnit s new u unit after → after.node ≡ after_message_sent unit.node
     → slice_get unit.node.out 0 ≡ Some msg → after_send s.replies u msg ≡ Some new.replies → new.network ≡ s.network → EachIsSupplied chip s → EachIsSupplied chip new
 unfolding after_message_sent
-supplied_sent chip s new u unit after msg c node first entered network =
+supplied_sent messages chip s new u unit after msg c node first entered network =
     let stays : SameOpen unit.node.side.misses.demand (after_message_sent unit.node).side.misses.demand = record { early = refl; ordered = refl } in
     let same : (after_message_sent unit.node).delivered ≡ unit.node.delivered = refl in
     supplied_step chip s new u unit after c (ap (λ (net : OrderedNetwork). net.ordered) network)
@@ -107,5 +107,5 @@ supplied_sent chip s new u unit after msg c node first entered network =
     (ap (λ (x : Node). x.delivered) node ∙ same)
     (λ t.
     let promises : promised t after.node ≡ promised t (after_message_sent unit.node) = ap (promised t) node in
-    let channels : data_in_channels new t ≡ data_in_channels s t + count_if (is_data_for t msg) = total-after_send (λ m. count_if (is_data_for t m)) s.replies new.replies u msg entered in
+    let channels : data_in_channels new t ≡ data_in_channels s t + count_if (is_data_for t msg) = messages.adds (λ m. count_if (is_data_for t m)) s.replies new.replies u msg entered in
     omega (arith, promises, channels, sent_promises t unit.node msg first))

@@ -8,8 +8,7 @@ use Rattle.mesh_gen.specs.declared.msg.Msg.{Msg}
 use Rattle.mesh_gen.specs.declared.msg_kind.MsgKind.{MsgKind}
 use Rattle.mesh_gen.specs.declared.msg_kind.MsgKind.TheVariants.{Data, Back}
 use Rattle.mesh_gen.specs.declared.port.Port.{Port}
-use Rattle.mesh_gen.specs.Ports.{count_if, port_number}
-use Rattle.vc_bank.specs.Places.{Network, put}
+use Rattle.mesh_gen.specs.Ports.{count_if}
 use Rattle.chip_model.specs.Chip.{Chip}
 use Rattle.chip_model.specs.Misses.{Demand}
 use Rattle.chip_model.specs.Replies.{after_data_eject}
@@ -20,10 +19,9 @@ use Rattle.chip_model.specs.Ownership.{owns, OwnsByOrder}
 use Rattle.chip_model.specs.NodeShape.{NodeFits}
 use Rattle.chip_model.specs.Bookkeeping.{is_get, is_get_of}
 use Rattle.chip_model.specs.Suppliers.{delivered_at, is_data_for, data_in_channels, answers_to_come, has_early, is_ordered, IsSupplied}
-use Rattle.reply_net.proofs.Accounts.{received_is}
-use Rattle.reply_net.proofs.Steps.{total-take}
 use Rattle.snoop_core.specs.Requests.{OwnRequestFits}
 use Rattle.chip_laws.specs.EventSteps.{ChangesUnit}
+use Rattle.chip_laws.specs.MessageLaws.{MessageLaws}
 use Rattle.chip_laws.proofs.UnitFrames.{each_unit}
 use Rattle.chip_laws.proofs.OrderLists.{drop_next}
 use Rattle.chip_laws.proofs.SupplyCounts.{count_by-cons}
@@ -183,16 +181,15 @@ data_here chip side_new msg node is kind some =
     subst sum (sym is)
     (subst (λ (k : MsgKind). sum (arrived_as msg node k).0) (sym kind) (data_account node.chip node.side msg.words waited.0 waited.1))
 
-comes_answers : (chip : Chip) (s new : ChipState) (t u : ℕ) (unit after : UnitState) (port : Port) (slot : ℕ) (msg : Msg) → ChangesUnit s new u unit after
+comes_answers : MessageLaws → (chip : Chip) (s new : ChipState) (t u : ℕ) (unit after : UnitState) (port : Port) (slot : ℕ) (msg : Msg) → ChangesUnit s new u unit after
     → after.node ≡ (node_after_message msg unit.node).0 → after_data_eject s.replies u port slot ≡ Some (msg, new.replies) → new.network.ordered ≡ s.network.ordered → NodeFits unit.node
     → answers_to_come chip new t + count_if (is_data_for t msg) ≡ answers_to_come chip s t
-comes_answers chip s new t u unit after port slot msg c node came order fits =
-    let is = received_is s.replies u port slot (msg, new.replies) came in
-    let less = total-take (λ m. count_if (is_data_for t m)) s.replies u (port_number port) slot msg is.stood in
-    let left : data_in_channels new t ≡ data_in_channels (record s { replies = put s.replies u (port_number port) slot None }) t = ap (λ (net : Network Msg). data_in_channels (record s { replies = net }) t) is.left in
+comes_answers messages chip s new t u unit after port slot msg c node came order fits =
+    let less : data_in_channels new t + count_if (is_data_for t msg) ≡ data_in_channels s t =
+    messages.takes (λ m. count_if (is_data_for t m)) s.replies new.replies u port slot msg came in
     let promises : promised t after.node ≡ promised t (node_after_message msg unit.node).0 = ap (promised t) node in
     answers_changed chip s new t u unit after (count_if (is_data_for t msg)) c order (ap (λ (x : Node). x.delivered) node ∙ same_delivered msg unit.node)
-    (omega (arith, less, left, promises, arrived_promises t msg unit.node fits.side))
+    (omega (arith, less, promises, arrived_promises t msg unit.node fits.side))
 
 not_data : (t : ℕ) (msg : Msg) → msg.kind ≡ Back → count_if (is_data_for t msg) ≡ 0
 not_data t msg kind = ap (λ k. count_if (not (is_back k) && (msg.to == t))) kind
@@ -235,13 +232,13 @@ comes_data chip s new u unit after msg c node order kind to few answers law =
         omega (arith, one, was, now, few, account, left, most)
 
 -- a message comes to a tile
-pub supplied_comes : (chip : Chip) (s new : ChipState) (u : ℕ) (unit after : UnitState) (port : Port) (slot : ℕ) (msg : Msg) → ChangesUnit s new u unit after
+pub supplied_comes : MessageLaws → (chip : Chip) (s new : ChipState) (u : ℕ) (unit after : UnitState) (port : Port) (slot : ℕ) (msg : Msg) → ChangesUnit s new u unit after
     → after.node ≡ (node_after_message msg unit.node).0 → after_data_eject s.replies u port slot ≡ Some (msg, new.replies) → new.network.ordered ≡ s.network.ordered
     → Comes s.network.ordered u unit.node → EachIsSupplied chip s → EachIsSupplied chip new
-supplied_comes chip s new u unit after port slot msg c node came order is = by msg.kind refl where
+supplied_comes messages chip s new u unit after port slot msg c node came order is = by msg.kind refl where
   answers : (t : ℕ) → answers_to_come chip new t + count_if (is_data_for t msg) ≡ answers_to_come chip s t
-  answers t = comes_answers chip s new t u unit after port slot msg c node came order is.fits
+  answers t = comes_answers messages chip s new t u unit after port slot msg c node came order is.fits
 
   by : (kind : MsgKind) → msg.kind ≡ kind → EachIsSupplied chip s → EachIsSupplied chip new
-  by Data kind = comes_data chip s new u unit after msg c node order kind (received_is s.replies u port slot (msg, new.replies) came).here is.few answers
+  by Data kind = comes_data chip s new u unit after msg c node order kind (messages.here s.replies new.replies u port slot msg came) is.few answers
   by Back kind = comes_back chip s new u unit after msg c node order kind answers

@@ -17,9 +17,9 @@ use Rattle.chip_model.specs.NodeShape.{IsCache}
 use Rattle.chip_model.specs.ChipInvariant.{UnitHolds, ProtocolHolds}
 use Rattle.chip_model.specs.Suppliers.{count_of, delivered_at}
 use Rattle.net_iface.proofs.Places.{item_at}
-use Rattle.reply_net.proofs.Accounts.{Nearer}
 use Rattle.chip_laws.specs.EventSteps.{EventDoes, ChangesNetwork}
 use Rattle.chip_laws.specs.Meetings.{UnitsFit}
+use Rattle.chip_laws.specs.MessageLaws.{MessageLaws}
 use Rattle.chip_laws.proofs.TileAgreements.{keeps_of, own_request_fits}
 use Rattle.chip_laws.proofs.SupplyAccounts.{SameSupply, accessed_supply, asked_supply}
 use Rattle.chip_laws.proofs.SupplyBounds.{one_open}
@@ -106,28 +106,28 @@ network_event d s new step holds does orders =
 same_order : (s new : ChipState) → new.network ≡ s.network → new.network.ordered ≡ s.network.ordered
 same_order s new same = ap (λ (net : OrderedNetwork). net.ordered) same
 
-pub supplied_event : (b : Behaviour) (laws : KeepsLaws b) (d : Doc) (s new : ChipState) (event : Event) → Nearer → HasTiles (chip_of d).grid → ProtocolHolds d s → UnitsFit b laws s
+pub supplied_event : (b : Behaviour) (laws : KeepsLaws b) (d : Doc) (s new : ChipState) (event : Event) → MessageLaws → HasTiles (chip_of d).grid → ProtocolHolds d s → UnitsFit b laws s
     → (does : EventDoes b (chip_of d) s new event) → OrderGoes b (chip_of d) s new event does → EachIsSupplied (chip_of d) s → EachIsSupplied (chip_of d) new
-supplied_event b laws d s new Tick nearer some holds fit does order = network_event d s new _ holds does order
-supplied_event b laws d s new (Post t) nearer some holds fit does order = network_event d s new _ holds does order
-supplied_event b laws d s new (Take t) nearer some holds fit does order = network_event d s new _ holds does order
-supplied_event b laws d s new (Hop r port slot out) nearer some holds fit does order = network_event d s new _ holds does order
-supplied_event b laws d s new (Core t) nearer some holds fit does order =
+supplied_event b laws d s new Tick messages some holds fit does order = network_event d s new _ holds does order
+supplied_event b laws d s new (Post t) messages some holds fit does order = network_event d s new _ holds does order
+supplied_event b laws d s new (Take t) messages some holds fit does order = network_event d s new _ holds does order
+supplied_event b laws d s new (Hop r port slot out) messages some holds fit does order = network_event d s new _ holds does order
+supplied_event b laws d s new (Core t) messages some holds fit does order =
     let own = unit_holds d s t does.unit holds does.changes.at in
     let works = laws.stepped does.unit (fit t does.unit does.changes.at) does.ready in
     supplied_quiet (chip_of d) s new t does.unit (b.stepped does.unit).0 does.changes (same_order s new does.network) does.replies
     (core_supply does.unit (b.stepped does.unit) own.holds.node.fits.side.cache works.1)
-supplied_event b laws d s new (Inject t) nearer some holds fit does order =
+supplied_event b laws d s new (Inject t) messages some holds fit does order =
     supplied_quiet (chip_of d) s new t does.unit (record does.unit { node = after_request_sent does.unit.node }) does.changes order does.replies (asked_supply does.unit.node)
-supplied_event b laws d s new (Eject t) nearer some holds fit does order =
+supplied_event b laws d s new (Eject t) messages some holds fit does order =
     let law = laws.delivered does.request does.unit (fit t does.unit does.changes.at) in
     supplied_delivered (chip_of d) s new t does.unit (b.delivered does.request does.unit).0 does.request does.changes law.1.goes_on.node order.0 does.replies
     (delivers d s t does.unit does.request holds does.changes.at order.1 order.2)
-supplied_event b laws d s new (Send t) nearer some holds fit does order =
-    supplied_sent (chip_of d) s new t does.unit (record does.unit { node = after_message_sent does.unit.node }) does.msg does.changes refl does.first does.replies does.network
-supplied_event b laws d s new (DataHop r port slot) nearer some holds fit does order =
-    supplied_hop (chip_of d) s new r port slot nearer some does.replies does.units does.network
-supplied_event b laws d s new (DataEject r port slot) nearer some holds fit does order =
+supplied_event b laws d s new (Send t) messages some holds fit does order =
+    supplied_sent messages (chip_of d) s new t does.unit (record does.unit { node = after_message_sent does.unit.node }) does.msg does.changes refl does.first does.replies does.network
+supplied_event b laws d s new (DataHop r port slot) messages some holds fit does order =
+    supplied_hop (chip_of d) s new r port slot messages some does.replies does.units does.network
+supplied_event b laws d s new (DataEject r port slot) messages some holds fit does order =
     let law = laws.received does.msg does.unit (fit r does.unit does.changes.at) in
-    supplied_comes (chip_of d) s new r does.unit (b.received does.msg does.unit).0 port slot does.msg does.changes law.1.goes_on.node does.replies
+    supplied_comes messages (chip_of d) s new r does.unit (b.received does.msg does.unit).0 port slot does.msg does.changes law.1.goes_on.node does.replies
     (same_order s new does.network) (takes_in d s r does.unit holds does.changes.at)

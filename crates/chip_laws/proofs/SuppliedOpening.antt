@@ -14,7 +14,7 @@ use Rattle.chip_model.specs.Units.{UnitState, opening_unit}
 use Rattle.chip_model.specs.ChipState.{ChipState, opening, program_of}
 use Rattle.chip_model.specs.Bookkeeping.{is_get_of}
 use Rattle.chip_model.specs.Suppliers.{places_at, promised_by, data_in_channels, is_data_for, answers_to_come, IsSupplied}
-use Rattle.reply_net.proofs.Sound.{nothing_weighs}
+use Rattle.chip_laws.specs.MessageLaws.{MessageLaws}
 use Rattle.chip_laws.proofs.Options.{none_some}
 use Rattle.chip_laws.proofs.SupplyFrames.{EachIsSupplied}
 
@@ -47,9 +47,9 @@ units_promise d t (tile ∷ tiles) =
       units_promise d t tiles,
     )
 
-opening_answers : (d : Doc) (t : ℕ) → answers_to_come (chip_of d) (opening d) t ≡ 0
-opening_answers d t =
-    let channels : data_in_channels (opening d) t ≡ 0 = nothing_weighs (λ msg. count_if (is_data_for t msg)) (chip_of d).grid d.data_vcs in
+opening_answers : MessageLaws → (d : Doc) (t : ℕ) → answers_to_come (chip_of d) (opening d) t ≡ 0
+opening_answers messages d t =
+    let channels : data_in_channels (opening d) t ≡ 0 = messages.none (λ msg. count_if (is_data_for t msg)) (chip_of d).grid d.data_vcs in
     omega (arith, units_promise d t (upwards 0 (tile_count (chip_of d))), channels)
 
 one_of : (d : Doc) (s : ChipState) (t : ℕ) (tiles : List ℕ) (k : ℕ) (unit : UnitState) → s.network.ordered ≡ [] → answers_to_come (chip_of d) s t ≡ 0
@@ -62,5 +62,5 @@ one_of d s t (tile ∷ tiles) zero unit order none at =
 one_of d s t (tile ∷ tiles) (suc k) unit order none at = one_of d s t tiles k unit order none at
 
 -- before any event
-pub supplied_opening : (d : Doc) → EachIsSupplied (chip_of d) (opening d)
-supplied_opening d t unit at = one_of d (opening d) t (upwards 0 (tile_count (chip_of d))) t unit refl (opening_answers d t) at
+pub supplied_opening : MessageLaws → (d : Doc) → EachIsSupplied (chip_of d) (opening d)
+supplied_opening messages d t unit at = one_of d (opening d) t (upwards 0 (tile_count (chip_of d))) t unit refl (opening_answers messages d t) at

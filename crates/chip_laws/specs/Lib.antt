@@ -1,7 +1,9 @@
 pub mod DocFits
+pub mod DocLaws
 pub mod EventSteps
 pub mod InOrderUnits
 pub mod Meetings
+pub mod MessageLaws
 pub mod Parts
 pub mod WaitingAccesses
 pub mod QueuedMessages

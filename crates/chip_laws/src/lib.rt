@@ -6,5 +6,6 @@ mod laws;
 
 pub use accesses::access_laws;
 pub use laws::{
-    behaviour_laws, core_order_laws, network_event_laws, node_event_laws, order_laws, unit_laws,
+    behaviour_laws, chip_network_laws, core_order_laws, network_event_laws, node_event_laws,
+    order_laws, unit_laws,
 };

@@ -7,7 +7,6 @@ use Rattle.mesh_gen.specs.declared.msg.Msg.{Msg}
 use Rattle.mesh_gen.specs.declared.msg_kind.MsgKind.{MsgKind}
 use Rattle.mesh_gen.specs.declared.msg_kind.MsgKind.TheVariants.{Back}
 use Rattle.mesh_gen.specs.declared.port.Port.{Port}
-use Rattle.mesh_gen.specs.Ports.{port_number}
 use Rattle.vc_bank.specs.Places.{Network}
 use Rattle.doc_text.specs.Doc.{Doc}
 use Rattle.chip_model.specs.Chip.{Chip, chip_of, tile_count, home}
@@ -19,9 +18,10 @@ use Rattle.chip_model.specs.NodeShape.{SideFits}
 use Rattle.chip_model.specs.Suppliers.{is_data_for}
 use Rattle.chip_model.specs.NetworkShape.{GoesTo}
 use Rattle.chip_model.specs.ChipInvariant.{ProtocolHolds}
-use Rattle.reply_net.proofs.Accounts.{received_is}
-use Rattle.chip_laws.specs.DocFits.{DocFits}
+use Rattle.chip_laws.specs.DocLaws.{DocLaws}
 use Rattle.chip_laws.specs.Meetings.{ArrivalsFit}
+use Rattle.chip_laws.specs.MessageLaws.{MessageLaws}
+use Rattle.chip_laws.proofs.ArrivedMessages.{came_fits}
 use Rattle.chip_laws.proofs.NodeKeeps.{node_keeps, arrived_keeps}
 use Rattle.chip_laws.proofs.OrderFrames.{holds_at}
 use Rattle.chip_laws.proofs.RequestsInside.{tile_of, sends_fit, waiters_inside}
@@ -35,11 +35,11 @@ goes_home : (chip : Chip) (msg : Msg) (kind : MsgKind) → kind ≡ Back → Goe
 goes_home chip msg kind is goes = subst (GoesTo chip msg) is goes
 
 -- all that the arrival asks, where data is what its demand waits for
-pub arrival_fits : (queue : ℕ) (d : Doc) (s : ChipState) (t : ℕ) (port : Port) (slot : ℕ) (unit : UnitState) (msg : Msg) (replies : Network Msg) → tile_count (chip_of d) + 1 ≤ queue
-    → DocFits d → ProtocolHolds d s → ArrivalsFit s → slice_get s.units t ≡ Some unit → after_data_eject s.replies t port slot ≡ Some (msg, replies) → ArrivalFits queue unit.node msg
-arrival_fits queue d s t port slot unit msg replies short fits holds arrive at comes =
-    let is = received_is s.replies t port slot (msg, replies) comes in
-    let message = holds.network.messages t (port_number port) slot msg is.stood in
+pub arrival_fits : MessageLaws → (queue : ℕ) (d : Doc) (s : ChipState) (t : ℕ) (port : Port) (slot : ℕ) (unit : UnitState) (msg : Msg) (replies : Network Msg) → tile_count (chip_of d) + 1 ≤ queue
+    → DocLaws d → ProtocolHolds d s → ArrivalsFit s → slice_get s.units t ≡ Some unit → after_data_eject s.replies t port slot ≡ Some (msg, replies) → ArrivalFits queue unit.node msg
+arrival_fits messages queue d s t port slot unit msg replies short fits holds arrive at comes =
+    let to = messages.here s.replies replies t port slot msg comes in
+    let message = came_fits messages d s t port slot msg replies holds.network comes in
     let here = holds_at d s holds t unit at in
     let node = here.holds.node in
     let awaited = arrive t port slot unit msg replies at comes in
@@ -51,7 +51,7 @@ arrival_fits queue d s t port slot unit msg replies short fits holds arrive at c
     record {
       line = subst (λ (c : Chip). msg.line < c.lines) (sym node.chip) message.line;
       awaited = awaited;
-      home = λ kind. ap (λ (c : Chip). home c msg.line) node.chip ∙ sym (goes_home (chip_of d) msg msg.kind kind message.goes_to) ∙ is.here ∙ sym node.agrees.tile;
+      home = λ kind. ap (λ (c : Chip). home c msg.line) node.chip ∙ sym (goes_home (chip_of d) msg msg.kind kind message.goes_to) ∙ to ∙ sym node.agrees.tile;
       room = omega (arith, few, short);
     }
   where

@@ -29,7 +29,7 @@ use Rattle.mem_ctrl.specs.Owners.{record_of}
 use Rattle.mem_ctrl.specs.Waits.{Waits}
 use Rattle.snoop_core.specs.Requests.{OwnRequestFits}
 use Rattle.snoop_core.proofs.HoldingCases.{holding_open_write}
-use Rattle.chip_laws.specs.DocFits.{DocFits}
+use Rattle.chip_laws.specs.DocLaws.{DocLaws}
 use Rattle.chip_laws.proofs.Calls.{own_requests_fit}
 use Rattle.chip_laws.proofs.Deliveries.{deliveries_fit}
 use Rattle.chip_laws.proofs.NodeMessages.{RequestInside, SendsFit}
@@ -94,7 +94,7 @@ ends_writes [] ends = ends
 ends_writes (last ∷ []) ends = ap (λ (b : Bool). b || false) ends
 ends_writes (first ∷ next ∷ rest) ends = or_right (is_getm first.kind) (list_any (λ (w : Waiting). is_getm w.kind) (next ∷ rest)) (ends_writes (next ∷ rest) ends)
 
-module _ (d : Doc) (s : ChipState) (t : ℕ) (unit : UnitState) (q : Request) (fits : DocFits d) (holds : ProtocolHolds d s) (at : slice_get s.units t ≡ Some unit)
+module _ (d : Doc) (s : ChipState) (t : ℕ) (unit : UnitState) (q : Request) (fits : DocLaws d) (holds : ProtocolHolds d s) (at : slice_get s.units t ≡ Some unit)
     (next : slice_get s.network.ordered unit.node.delivered ≡ Some q) where
   abbrev node : Node
   node = unit.node
@@ -179,7 +179,7 @@ module _ (d : Doc) (s : ChipState) (t : ℕ) (unit : UnitState) (q : Request) (f
 
 -- ---- all that the delivery asks
 pub delivery_fits : (places queue : ℕ) (d : Doc) (s : ChipState) (t : ℕ) (unit : UnitState) (q : Request) (net : OrderedNetwork) → tile_count (chip_of d) ≤ places → tile_count (chip_of d) + 1 ≤ queue
-    → DocFits d → ProtocolHolds d s → slice_get s.units t ≡ Some unit → after_delivery (chip_of d) s.network t ≡ Some (q, net) → DeliveryFits places queue unit.node q
+    → DocLaws d → ProtocolHolds d s → slice_get s.units t ≡ Some unit → after_delivery (chip_of d) s.network t ≡ Some (q, net) → DeliveryFits places queue unit.node q
 delivery_fits places queue d s t unit q net few short fits holds at delivers =
     let next = deliveries_fit d s fits holds t unit q net at delivers in
     let node = (holds_at d s holds t unit at).holds.node in

@@ -14,7 +14,7 @@ use Rattle.chip_model.specs.ChipState.{ChipState, opening}
 use Rattle.chip_model.specs.Bookkeeping.{is_get}
 use Rattle.chip_model.specs.Suppliers.{writes_back, last_written_back, place_of_get, IsOpen, GetsWait}
 use Rattle.chip_model.specs.ChipInvariant.{ProtocolHolds}
-use Rattle.chip_laws.specs.DocFits.{DocFits}
+use Rattle.chip_laws.specs.DocLaws.{DocLaws}
 use Rattle.chip_laws.proofs.Options.{none_some}
 use Rattle.chip_laws.proofs.OrderFrames.{known_of}
 use Rattle.chip_laws.proofs.Supplied.{Grows}
@@ -61,7 +61,7 @@ due_less d s new line order (delivers is) = omega (arith, is.due line)
 due_less d s new line order (returns is) = omega (arith, is.due line)
 
 -- ---- an event that orders nothing
-module _ (d : Doc) (s new : ChipState) (fits : DocFits d) (holds : ProtocolHolds d s) (none : NoneWritesBackBefore s) (keeps : KeepsPlaces s new) where
+module _ (d : Doc) (s new : ChipState) (fits : DocLaws d) (holds : ProtocolHolds d s) (none : NoneWritesBackBefore s) (keeps : KeepsPlaces s new) where
   still_open : (line place : ℕ) (q : Request) → slice_get s.network.ordered place ≡ Some q → is_get q.kind ≡ true → q.line ≡ line → IsOpen s place q
       → ((is : OpenAt s line place) → EndsBy s is.get.source is.unit → ⊥) → IsOpen new place q
   still_open line place q at get same is never after after_at =
@@ -161,7 +161,7 @@ module _ (d : Doc) (s new : ChipState) (holds : ProtocolHolds d s) (is : Ticked 
     ];
   }
 
-pub gets_wait_kept : (d : Doc) (s new : ChipState) → DocFits d → ProtocolHolds d s → NoneWritesBackBefore s → KeepsOrTicks (chip_of d) s new → BackEvent d s new → (line : ℕ) → GetsWait new line
+pub gets_wait_kept : (d : Doc) (s new : ChipState) → DocLaws d → ProtocolHolds d s → NoneWritesBackBefore s → KeepsOrTicks (chip_of d) s new → BackEvent d s new → (line : ℕ) → GetsWait new line
 gets_wait_kept d s new fits holds none (inl keeps) event = kept_waits d s new fits holds none keeps event
 gets_wait_kept d s new fits holds none (inr ticks) event =
     let is = ticked d s new fits holds ticks in

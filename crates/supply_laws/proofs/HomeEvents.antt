@@ -23,9 +23,9 @@ use Rattle.chip_model.specs.Ownership.{owner, is_tile, delivered_to}
 use Rattle.chip_model.specs.Bookkeeping.{is_get}
 use Rattle.chip_model.specs.ChipInvariant.{ProtocolHolds}
 use Rattle.chip_model.specs.Suppliers.{is_back_for, writes_back_as, writes_back, last_written_back, RecordsAreFresh, WaitersAreGets, ReachesMemory}
-use Rattle.reply_net.proofs.Accounts.{Nearer}
-use Rattle.chip_laws.specs.DocFits.{DocFits}
+use Rattle.chip_laws.specs.DocLaws.{DocLaws}
 use Rattle.chip_laws.specs.Meetings.{UnitsFit}
+use Rattle.chip_laws.specs.MessageLaws.{MessageLaws}
 use Rattle.chip_laws.proofs.EventSteps.{event_does}
 use Rattle.chip_laws.proofs.Deliveries.{deliveries_fit}
 use Rattle.chip_laws.proofs.UnitFrames.{each_unit, same_units}
@@ -99,7 +99,7 @@ no_get line q other = ap (λ (b : Bool). cond {A = List Request} (is_get q.kind 
   by true = refl
   by false = refl
 
-delivered_line : (d : Doc) (s new : ChipState) → DocFits d → ProtocolHolds d s → NoneWritesBackBefore s → (e : DeliversAt d s new) → HomeHolds s e.unit.node
+delivered_line : (d : Doc) (s new : ChipState) → DocLaws d → ProtocolHolds d s → NoneWritesBackBefore s → (e : DeliversAt d s new) → HomeHolds s e.unit.node
     → (line : ℕ) (r : LineRecord) → slice_index_or (answered e.request e.unit.node.records).records line None ≡ Some r → LineHolds s line (e.unit.node.delivered + 1) r
 unfolding answered
 delivered_line d s new fits holds none e is line r at = by (slice_index_or e.unit.node.records e.request.line None) refl at where
@@ -132,7 +132,7 @@ delivered_line d s new fits holds none e is line r at = by (slice_index_or e.uni
     | inr away ↦ passed (λ same. away.0 (sym same)) away.1
   ]
 
-delivered_home : (d : Doc) (s new : ChipState) → DocFits d → ProtocolHolds d s → NoneWritesBackBefore s → (e : DeliversAt d s new) → HomeHolds s e.unit.node → HomeHolds s e.after.node
+delivered_home : (d : Doc) (s new : ChipState) → DocLaws d → ProtocolHolds d s → NoneWritesBackBefore s → (e : DeliversAt d s new) → HomeHolds s e.unit.node → HomeHolds s e.after.node
 unfolding node_after_request
 delivered_home d s new fits holds none e is line r at =
     let records : e.after.node.records ≡ (answered e.request e.unit.node.records).records = ap (λ (x : Node). x.records) e.node in
@@ -214,7 +214,7 @@ returned_other d s new holds e t unit away at is line r there = elim (cases_eq e
 home_before : (d : Doc) (s : ChipState) → ProtocolHolds d s → (t : ℕ) (unit : UnitState) → slice_get s.units t ≡ Some unit → HomeHolds s unit.node
 home_before d s holds t unit at = let own = unit_holds d s t unit holds at in home_of s unit.node own.holds.serves.fresh own.holds.serves.waiters
 
-pub homes_after : (d : Doc) (s new : ChipState) → DocFits d → ProtocolHolds d s → NoneWritesBackBefore s → BackEvent d s new
+pub homes_after : (d : Doc) (s new : ChipState) → DocLaws d → ProtocolHolds d s → NoneWritesBackBefore s → BackEvent d s new
     → (t : ℕ) (unit : UnitState) → slice_get new.units t ≡ Some unit → HomeHolds new unit.node
 homes_after d s new fits holds none (stays e) = λ t unit at.
     let was = e.homes t unit at in
@@ -239,13 +239,13 @@ memory_after d s new holds (delivers e) line = reaches_still s new line e.order 
 memory_after d s new holds (returns e) line = reaches_still s new line e.order (omega (arith, e.due line)) e.counts (holds.backs line)
 
 -- ---- a step of the chip
-pub reaches_after : Nearer → (b : Behaviour) (laws : KeepsLaws b) (d : Doc) (s new : ChipState) (event : Event) → DocFits d → ProtocolHolds d s → UnitsFit b laws s
+pub reaches_after : MessageLaws → (b : Behaviour) (laws : KeepsLaws b) (d : Doc) (s new : ChipState) (event : Event) → DocLaws d → ProtocolHolds d s → UnitsFit b laws s
     → step b (chip_of d) s event ≡ Some new → WordsReachMemory new
-reaches_after nearer b laws d s new event fits holds fit e =
-    memory_after d s new holds (back_event nearer b laws d s new event fits holds fit (deliveries_fit d s fits holds) (event_does b (chip_of d) s new event e))
+reaches_after messages b laws d s new event fits holds fit e =
+    memory_after d s new holds (back_event messages b laws d s new event fits holds fit (deliveries_fit d s fits holds) (event_does b (chip_of d) s new event e))
 
-pub homes_hold_after : Nearer → (b : Behaviour) (laws : KeepsLaws b) (d : Doc) (s new : ChipState) (event : Event) → DocFits d → ProtocolHolds d s → UnitsFit b laws s → NoneWritesBackBefore s
+pub homes_hold_after : MessageLaws → (b : Behaviour) (laws : KeepsLaws b) (d : Doc) (s new : ChipState) (event : Event) → DocLaws d → ProtocolHolds d s → UnitsFit b laws s → NoneWritesBackBefore s
     → step b (chip_of d) s event ≡ Some new → HomesHold new
-homes_hold_after nearer b laws d s new event fits holds fit none e =
-    let after = homes_after d s new fits holds none (back_event nearer b laws d s new event fits holds fit (deliveries_fit d s fits holds) (event_does b (chip_of d) s new event e)) in
+homes_hold_after messages b laws d s new event fits holds fit none e =
+    let after = homes_after d s new fits holds none (back_event messages b laws d s new event fits holds fit (deliveries_fit d s fits holds) (event_does b (chip_of d) s new event e)) in
     record { fresh = λ t unit at. fresh_of new unit.node (after t unit at); waiters = λ t unit at. waiters_of new unit.node (after t unit at) }

@@ -15,7 +15,7 @@ use Rattle.chip_model.specs.Node.{Node, words_at, record_at, opening_node}
 use Rattle.chip_model.specs.Units.{UnitState, opening_unit}
 use Rattle.chip_model.specs.ChipState.{opening, program_of}
 use Rattle.chip_model.specs.Suppliers.{is_back_for, is_fresh_by, waiters_after, last_written_back, RecordsAreFresh, WaitersAreGets}
-use Rattle.reply_net.proofs.Sound.{nothing_weighs}
+use Rattle.chip_laws.specs.MessageLaws.{MessageLaws}
 use Rattle.chip_laws.proofs.Options.{none_some}
 use Rattle.supply_laws.specs.HomeParts.{WordsReachMemory, HomesHold}
 use Rattle.supply_laws.proofs.WordsDue.{due, backs_by, backs_in_channels}
@@ -30,15 +30,15 @@ queues_none d line (tile ∷ tiles) =
       queues_none d line tiles,
     )
 
-due_none : (d : Doc) (line : ℕ) → due (opening d) line ≡ 0
-due_none d line =
-    let channels : backs_in_channels (opening d) line ≡ 0 = nothing_weighs (λ msg. count_if (is_back_for line msg)) (chip_of d).grid d.data_vcs in
+due_none : MessageLaws → (d : Doc) (line : ℕ) → due (opening d) line ≡ 0
+due_none messages d line =
+    let channels : backs_in_channels (opening d) line ≡ 0 = messages.none (λ msg. count_if (is_back_for line msg)) (chip_of d).grid d.data_vcs in
     omega (arith, queues_none d line (upwards 0 (tile_count (chip_of d))), channels)
 
-pub memory_opened : (d : Doc) → WordsReachMemory (opening d)
-memory_opened d line = record {
-  once = omega (arith, due_none d line);
-  last = λ some. absurd (omega (arith, some, due_none d line));
+pub memory_opened : MessageLaws → (d : Doc) → WordsReachMemory (opening d)
+memory_opened messages d line = record {
+  once = omega (arith, due_none messages d line);
+  last = λ some. absurd (omega (arith, some, due_none messages d line));
   undelivered = λ place writes waits. absurd (false≢true writes);
 }
 

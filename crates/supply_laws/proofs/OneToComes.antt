@@ -15,7 +15,7 @@ use Rattle.chip_model.specs.Ownership.{owner}
 use Rattle.chip_model.specs.Bookkeeping.{is_get_of}
 use Rattle.chip_model.specs.Suppliers.{count_of, delivered_at, supplier, is_to_come_at, is_to_come, is_ordered, answers_to_come, place_of_get, IsSupplied}
 use Rattle.chip_model.specs.ChipInvariant.{ProtocolHolds}
-use Rattle.chip_laws.specs.DocFits.{DocFits}
+use Rattle.chip_laws.specs.DocLaws.{DocLaws}
 use Rattle.chip_laws.specs.Parts.{GetsAreSupplied}
 use Rattle.chip_laws.proofs.Options.{none_some}
 use Rattle.chip_laws.proofs.OrderFrames.{holds_at, known_of}
@@ -118,6 +118,6 @@ ticks_one d s new holds is t unit at place comes =
           undelivered_open new.network.ordered unit.node place c.get few c.at (ap (λ (k : ℕ). is_get_of k c.get) same ∙ c.of) (omega (arith, beyond, (known_of d s holds t unit was).within)))
     ]
 
-pub one_to_come_kept : (d : Doc) (s new : ChipState) → DocFits d → ProtocolHolds d s → KeepsOrTicks (chip_of d) s new → GetsAreSupplied d new → EachHasOneToCome d new
+pub one_to_come_kept : (d : Doc) (s new : ChipState) → DocLaws d → ProtocolHolds d s → KeepsOrTicks (chip_of d) s new → GetsAreSupplied d new → EachHasOneToCome d new
 one_to_come_kept d s new fits holds (inl keeps) supplied = keeps_one d s new holds keeps supplied
 one_to_come_kept d s new fits holds (inr ticks) supplied = ticks_one d s new holds (ticked d s new fits holds ticks)

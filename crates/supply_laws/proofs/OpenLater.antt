@@ -18,7 +18,7 @@ use Rattle.chip_model.specs.Ownership.{owner, delivered_to}
 use Rattle.chip_model.specs.Bookkeeping.{is_get, between, up_to_getm, waiting_for}
 use Rattle.chip_model.specs.Suppliers.{count_of, delivered_at, supplier, places_in, writes_back, last_written_back, next_written_back, has_come, is_fresh_by, waiters_after, place_of_get, IsOpen}
 use Rattle.chip_model.specs.ChipInvariant.{ProtocolHolds}
-use Rattle.chip_laws.specs.DocFits.{DocFits}
+use Rattle.chip_laws.specs.DocLaws.{DocLaws}
 use Rattle.chip_laws.proofs.NodeMessages.{home_inside}
 use Rattle.chip_laws.proofs.OrderFrames.{holds_at, known_of}
 use Rattle.chip_laws.proofs.RequestsInside.{tile_of, request_inside}
@@ -44,7 +44,7 @@ no_back line place ordered q at get writes =
     let same : q ≡ back.put = same_Some q back.put (sym at ∙ back.at) in
     absurd (false≢true (sym (ap (λ (x : Request). is_get x.kind) same ∙ ap is_get back.kind) ∙ get))
 
-module _ (d : Doc) (s : ChipState) (fits : DocFits d) (holds : ProtocolHolds d s) (none : NoneWritesBackBefore s) where
+module _ (d : Doc) (s : ChipState) (fits : DocLaws d) (holds : ProtocolHolds d s) (none : NoneWritesBackBefore s) where
   -- ---- after a GetM that is not complete a tile owns the line, whose own GetM is not complete
   write_supplies : (line g place v : ℕ) (first : IsOpenWrite s line g) → g < place → (from : OwnerGet line v place s.network.ordered) → IsOpen s from.place from.get
   write_supplies line g place v first before from unit at = elim (cases_eq g from.place) [
@@ -142,7 +142,7 @@ module _ (d : Doc) (s : ChipState) (fits : DocFits d) (holds : ProtocolHolds d s
   home_supplies : (line g place : ℕ) → IsDue s line g → g < place → (is : OpenAt s line place) → owner line (take place s.network.ordered) ≡ Memory → 1 ≤ pending (chip_of d) s is.get.source
   home_supplies line g place due before is owned =
       let h = home (chip_of d) line in
-      let tile = tile_of d s h holds (home_inside (chip_of d) line fits.chip.controllers) in
+      let tile = tile_of d s h holds (home_inside (chip_of d) line fits.doc.chip.controllers) in
       elim (cases_lt place tile.unit.node.delivered) [
         | inr earlier ↦ (
             let count : delivered_at s h ≡ tile.unit.node.delivered = ap count_of tile.unit_at in

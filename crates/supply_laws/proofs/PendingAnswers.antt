@@ -22,7 +22,7 @@ use Rattle.chip_model.specs.Ownership.{owner}
 use Rattle.chip_model.specs.Bookkeeping.{is_get, between, up_to_getm, waiting_for}
 use Rattle.chip_model.specs.Suppliers.{count_of, delivered_at, supplier, is_to_come, places_in, places_after, places_at, promised_by, place_of_get, IsOpen}
 use Rattle.chip_model.specs.ChipInvariant.{ProtocolHolds}
-use Rattle.chip_laws.specs.DocFits.{DocFits}
+use Rattle.chip_laws.specs.DocLaws.{DocLaws}
 use Rattle.chip_laws.proofs.Options.{none_some}
 use Rattle.chip_laws.proofs.OrderFrames.{holds_at}
 use Rattle.chip_laws.proofs.OrderLists.{get_take}
@@ -117,7 +117,7 @@ pub record OpenAt (s : ChipState) (line place : ℕ) : Type 0 where
   pub unit_at : slice_get s.units get.source ≡ Some unit
   pub waits : place_of_get s unit.node ≡ Some place
 
-module _ (d : Doc) (s : ChipState) (fits : DocFits d) (holds : ProtocolHolds d s) where
+module _ (d : Doc) (s : ChipState) (fits : DocLaws d) (holds : ProtocolHolds d s) where
   -- it is supplied by a tile that waits itself
   pub record TileSupplies (t v : ℕ) : Type 0 where
     pub apart : v ≢ t

@@ -6,9 +6,8 @@ use Rattle.std.proofs.lemmas.Bool.{cases_eq, eq-eqb, eqb-true}
 use Rattle.std.proofs.lemmas.Option.{same_Some}
 use Rattle.mesh_gen.specs.declared.request.Request.{Request}
 use Rattle.mesh_gen.specs.declared.port.Port.{Port}
-use Rattle.mesh_gen.specs.Ports.{port_number, count_if}
+use Rattle.mesh_gen.specs.Ports.{count_if}
 use Rattle.vc_bank.specs.Places.{Network}
-use Rattle.vc_bank.proofs.PlaceLaws.{weigh_at}
 use Rattle.mesh_gen.specs.declared.msg.Msg.{Msg}
 use Rattle.mesh_gen.specs.declared.msg_kind.MsgKind.{MsgKind}
 use Rattle.mesh_gen.specs.declared.msg_kind.MsgKind.TheVariants.{Data, Back}
@@ -30,10 +29,10 @@ use Rattle.chip_model.specs.Suppliers.{count_of, delivered_at, has_early, is_ord
 use Rattle.chip_model.specs.ChipInvariant.{ProtocolHolds}
 use Rattle.snoop_core.specs.Requests.{OwnRequestFits}
 use Rattle.snoop_core.proofs.Accesses.{accessed_frame}
-use Rattle.reply_net.proofs.Accounts.{received_is}
-use Rattle.chip_laws.specs.DocFits.{DocFits}
+use Rattle.chip_laws.specs.DocLaws.{DocLaws}
 use Rattle.chip_laws.specs.EventSteps.{ChangesNetwork, ChangesUnit, EventDoes}
 use Rattle.chip_laws.specs.Meetings.{UnitsFit}
+use Rattle.chip_laws.specs.MessageLaws.{MessageLaws}
 use Rattle.chip_laws.proofs.Deliveries.{deliveries_fit}
 use Rattle.chip_laws.proofs.OrderGrows.{injected_order, delivered_order}
 use Rattle.supply_laws.proofs.KeptOrders.{posted_order, taken_order, hopped_order}
@@ -225,9 +224,9 @@ delivered_goes d s t unit q holds at next own = elim (delivered_place s.network.
         absurd (omega (arith, account, none_early, none_owned, one, unordered))
 
 -- data that comes
-arrived_goes : (d : Doc) (s : ChipState) (t : ℕ) (port : Port) (slot : ℕ) (unit : UnitState) (msg : Msg) (replies : Network Msg) → ProtocolHolds d s → slice_get s.units t ≡ Some unit
+arrived_goes : MessageLaws → (d : Doc) (s : ChipState) (t : ℕ) (port : Port) (slot : ℕ) (unit : UnitState) (msg : Msg) (replies : Network Msg) → ProtocolHolds d s → slice_get s.units t ≡ Some unit
     → after_data_eject s.replies t port slot ≡ Some (msg, replies) → GoesOnBy s t unit (open_place s.network.ordered (node_after_message msg unit.node).0)
-arrived_goes d s t port slot unit msg replies holds at comes = elim (arrived_place s.network.ordered msg unit.node (one_of d s t unit holds at)) [
+arrived_goes messages d s t port slot unit msg replies holds at comes = elim (arrived_place s.network.ordered msg unit.node (one_of d s t unit holds at)) [
   | inl stays ↦ inl stays
   | inr ends ↦ by msg.kind refl ends
 ]
@@ -236,16 +235,17 @@ arrived_goes d s t port slot unit msg replies holds at comes = elim (arrived_pla
         → GoesOnBy s t unit (open_place s.network.ordered (node_after_message msg unit.node).0)
     by Back kind ends = inl (returned_place s.network.ordered msg unit.node kind)
     by Data kind ends =
-        let is = received_is s.replies t port slot (msg, replies) comes in
-        let one : count_if (is_data_for t msg) ≡ 1 = ap count_if (ap (λ (k : MsgKind). not (is_back k) && (msg.to == t)) kind ∙ eq-eqb msg.to t is.here) in
-        let sum = weigh_at (λ r p i m. count_if (is_data_for t m)) s.replies t (port_number port) slot msg is.stood in
+        let to = messages.here s.replies replies t port slot msg comes in
+        let one : count_if (is_data_for t msg) ≡ 1 = ap count_if (ap (λ (k : MsgKind). not (is_back k) && (msg.to == t)) kind ∙ eq-eqb msg.to t to) in
+        let sum : data_in_channels (record s { replies = replies }) t + count_if (is_data_for t msg) ≡ data_in_channels s t =
+        messages.takes (λ m. count_if (is_data_for t m)) s.replies replies t port slot msg comes in
         inr (ends, inl (omega (arith, one, sum)))
 
 -- what an event does: it keeps the places, or it is a tick
 abbrev pub KeepsOrTicks : Chip → ChipState → ChipState → Type 0
 KeepsOrTicks chip s new = KeepsPlaces s new ⊎ ChangesNetwork (after_network_tick chip s.network) s new
 
-module _ (b : Behaviour) (laws : KeepsLaws b) (d : Doc) (s new : ChipState) (fits : DocFits d) (holds : ProtocolHolds d s) (fit : UnitsFit b laws s) where
+module _ (messages : MessageLaws) (b : Behaviour) (laws : KeepsLaws b) (d : Doc) (s new : ChipState) (fits : DocLaws d) (holds : ProtocolHolds d s) (fit : UnitsFit b laws s) where
   core_keeps : (t : ℕ) → EventDoes b (chip_of d) s new (Core t) → KeepsPlaces s new
   core_keeps t does =
       let here = holds_at d s holds t does.unit does.changes.at in
@@ -270,7 +270,8 @@ module _ (b : Behaviour) (laws : KeepsLaws b) (d : Doc) (s new : ChipState) (fit
       let same : (b.received does.msg does.unit).0.node.delivered ≡ does.unit.node.delivered = ap (λ (n : Node). n.delivered) node ∙ same_delivered does.msg does.unit.node in
       unit_places s new r does.unit (b.received does.msg does.unit).0 does.changes (same_order s new does.network) (ap (λ (n : Node). n.tile) node ∙ same_tile does.msg does.unit.node)
       (omega (arith, same))
-      (subst (λ (n : Node). GoesOnBy s r does.unit (open_place s.network.ordered n)) (sym node) (arrived_goes d s r port slot does.unit does.msg new.replies holds does.changes.at does.replies))
+      (subst (λ (n : Node). GoesOnBy s r does.unit (open_place s.network.ordered n)) (sym node)
+      (arrived_goes messages d s r port slot does.unit does.msg new.replies holds does.changes.at does.replies))
 
   pub keeps_or_ticks : (event : Event) → EventDoes b (chip_of d) s new event → KeepsOrTicks (chip_of d) s new
   keeps_or_ticks Tick does = inr does

@@ -18,7 +18,7 @@ use Rattle.chip_model.specs.Ownership.{owner, owns, delivered_to}
 use Rattle.chip_model.specs.Bookkeeping.{is_get, between, up_to_getm, waiting_for}
 use Rattle.chip_model.specs.Suppliers.{count_of, delivered_at, supplier, place_of_ordered, place_of_get, IsOpen, last_written_back, has_reached_memory, waiters_after}
 use Rattle.chip_model.specs.ChipInvariant.{ProtocolHolds}
-use Rattle.chip_laws.specs.DocFits.{DocFits}
+use Rattle.chip_laws.specs.DocLaws.{DocLaws}
 use Rattle.chip_laws.proofs.Each.{each_map, each_up_to_getm}
 use Rattle.chip_laws.proofs.OrderFrames.{holds_at}
 use Rattle.chip_laws.proofs.OrderLists.{get_take}
@@ -55,13 +55,13 @@ each_waits s line place below p passes each =
     each (place + 1 + k) q (omega arith) there parts.0 parts.1)))
 
 -- an open get of a line is one for which its tile waits
-pub waits_of : (d : Doc) (s : ChipState) (k line : ℕ) (q : Request) → DocFits d → ProtocolHolds d s → slice_get s.network.ordered k ≡ Some q → q.line ≡ line → IsOpen s k q
+pub waits_of : (d : Doc) (s : ChipState) (k line : ℕ) (q : Request) → DocLaws d → ProtocolHolds d s → slice_get s.network.ordered k ≡ Some q → q.line ≡ line → IsOpen s k q
     → WaitsFor s q.source line
 waits_of d s k line q fits holds at same is =
     let tile = tile_of d s q.source holds (source_inside d s k q fits holds at) in
     record { unit = tile.unit; unit_at = tile.unit_at; place = k; waits = is tile.unit tile.unit_at; get = q; get_at = at; same = same }
 
-module _ (d : Doc) (s : ChipState) (fits : DocFits d) (holds : ProtocolHolds d s) where
+module _ (d : Doc) (s : ChipState) (fits : DocLaws d) (holds : ProtocolHolds d s) where
   -- ---- the tile that a node supplies
   supplied_waits : (u : ℕ) (unit : UnitState) (q : Request) → slice_get s.units u ≡ Some unit → slice_get s.network.ordered unit.node.delivered ≡ Some q → is_get q.kind ≡ true
       → (supplier unit.node.chip q.line (owner q.line (delivered_to s.network.ordered unit.node)) == unit.node.tile) ≡ true → WaitsFor s q.source q.line

@@ -1,13 +1,13 @@
 -- How many messages are to bring a line's words to memory, on their way or still to be sent: over each kind of event.
-use Rattle.std.proofs.Common.{◌≡◌, ℕ, ◌+◌, ◌≤◌, cond, List, ◌++◌, length, sym, ◌∙◌, ap, arith, Some, None}
+use Rattle.std.proofs.Common.{◌≡◌, ℕ, ◌+◌, ◌≤◌, cond, List, ◌++◌, length, sym, ◌∙◌, ap, arith, Some}
 use Rattle.std.specs.Prelude.{◌==◌, slice_get}
 use Rattle.std.specs.List.{sum_by, count_by}
 use Rattle.mesh_gen.specs.declared.request.Request.{Request}
 use Rattle.mesh_gen.specs.declared.msg.Msg.{Msg}
 use Rattle.mesh_gen.specs.declared.port.Port.{Port}
-use Rattle.mesh_gen.specs.Ports.{count_if, port_number}
+use Rattle.mesh_gen.specs.Ports.{count_if}
 use Rattle.order_tracker.specs.Order.{upwards}
-use Rattle.vc_bank.specs.Places.{Network, weigh, put}
+use Rattle.vc_bank.specs.Places.{Network, weigh}
 use Rattle.chip_model.specs.Replies.{after_data_eject}
 use Rattle.chip_model.specs.Node.{Node, node_after_request, node_after_message}
 use Rattle.chip_model.specs.Units.{UnitState}
@@ -15,10 +15,9 @@ use Rattle.chip_model.specs.ChipState.{ChipState}
 use Rattle.chip_model.specs.NodeShape.{SideFits}
 use Rattle.chip_model.specs.Ownership.{OwnsByOrder}
 use Rattle.chip_model.specs.Suppliers.{count_of, delivered_at, is_back_for, writes_back, write_backs_in_flight, write_backs_to_come}
-use Rattle.reply_net.proofs.Accounts.{received_is}
-use Rattle.reply_net.proofs.Steps.{total-take}
 use Rattle.snoop_core.specs.Requests.{OwnRequestFits}
 use Rattle.chip_laws.specs.EventSteps.{ChangesUnit}
+use Rattle.chip_laws.specs.MessageLaws.{MessageLaws}
 use Rattle.chip_laws.proofs.SupplyCounts.{sum_by-set}
 use Rattle.chip_laws.proofs.SupplyFrames.{count_here, same_counts, one_more}
 use Rattle.chip_laws.proofs.Supplied.{Grows}
@@ -113,14 +112,12 @@ due_delivered s new line u unit after q c node order replies is =
     omega (arith, queues_changed s new line u unit after c, queue, sends, coming, place, now, to_come_is new line, to_come_is s line, channels_same s new line replies)
 
 -- a message comes to it
-pub due_comes : (s new : ChipState) (line u : ℕ) (unit after : UnitState) (port : Port) (slot : ℕ) (msg : Msg) → ChangesUnit s new u unit after
+pub due_comes : MessageLaws → (s new : ChipState) (line u : ℕ) (unit after : UnitState) (port : Port) (slot : ℕ) (msg : Msg) → ChangesUnit s new u unit after
     → after.node ≡ (node_after_message msg unit.node).0 → after.node.delivered ≡ unit.node.delivered
     → after_data_eject s.replies u port slot ≡ Some (msg, new.replies) → new.network.ordered ≡ s.network.ordered
     → due new line + count_if (is_back_for line msg) ≡ due s line
-due_comes s new line u unit after port slot msg c node delivered came order =
-    let is = received_is s.replies u port slot (msg, new.replies) came in
-    let less = total-take (λ m. count_if (is_back_for line m)) s.replies u (port_number port) slot msg is.stood in
-    let left : backs_in_channels new line ≡ backs_in_channels (record s { replies = put s.replies u (port_number port) slot None }) line =
-    ap (λ (net : Network Msg). weigh (λ router port slot m. count_if (is_back_for line m)) net) is.left in
+due_comes messages s new line u unit after port slot msg c node delivered came order =
+    let less : backs_in_channels new line + count_if (is_back_for line msg) ≡ backs_in_channels s line =
+    messages.takes (λ m. count_if (is_back_for line m)) s.replies new.replies u port slot msg came in
     let queue : backs_by line after ≡ backs_in line (node_after_message msg unit.node).0.out = ap (λ (x : Node). backs_in line x.out) node in
-    due_stepped s new line u unit after (count_if (is_back_for line msg)) c order delivered (omega (arith, less, left, queue, arrived_backs line msg unit.node))
+    due_stepped s new line u unit after (count_if (is_back_for line msg)) c order delivered (omega (arith, less, queue, arrived_backs line msg unit.node))

@@ -7,11 +7,11 @@ use Rattle.mesh_gen.specs.declared.msg.Msg.{Msg}
 use Rattle.mesh_gen.specs.declared.msg_kind.MsgKind.{MsgKind}
 use Rattle.mesh_gen.specs.declared.msg_kind.MsgKind.TheVariants.{Data, Back}
 use Rattle.mesh_gen.specs.declared.port.Port.{Port}
-use Rattle.mesh_gen.specs.Ports.{count_if, port_number}
+use Rattle.mesh_gen.specs.Ports.{count_if}
 use Rattle.report_text.specs.declared.event.Event.{Event}
 use Rattle.report_text.specs.declared.event.Event.TheVariants.{Tick, Core, Inject, Post, Take, Eject, Send, Hop, DataHop, DataEject}
 use Rattle.doc_text.specs.Doc.{Doc}
-use Rattle.chip_model.specs.Chip.{chip_of, tile_count}
+use Rattle.chip_model.specs.Chip.{chip_of}
 use Rattle.chip_model.specs.OrderedNetwork.{OrderedNetwork, after_network_tick}
 use Rattle.chip_model.specs.Replies.{after_data_eject}
 use Rattle.chip_model.specs.Node.{Node, is_back, arrived_as, node_after_request, node_after_message, after_request_sent, after_message_sent}
@@ -22,24 +22,23 @@ use Rattle.chip_model.specs.NodeShape.{IsCache}
 use Rattle.chip_model.specs.NetworkShape.{MessageFits}
 use Rattle.chip_model.specs.ChipInvariant.{ProtocolHolds}
 use Rattle.chip_model.specs.Suppliers.{delivered_at, is_back_for}
-use Rattle.net_iface.proofs.Entries.{source_below}
-use Rattle.net_iface.proofs.Ticks.{keeps-tick}
-use Rattle.reply_net.proofs.Accounts.{Nearer, received_is, total-after_send, total-after_data_hop}
 use Rattle.snoop_core.proofs.Accesses.{accessed_frame}
-use Rattle.chip_laws.specs.DocFits.{DocFits}
+use Rattle.chip_laws.specs.DocLaws.{DocLaws}
 use Rattle.chip_laws.specs.EventSteps.{ChangesUnit, ChangesNetwork, EventDoes}
 use Rattle.chip_laws.specs.Meetings.{DeliveriesFit, UnitsFit}
+use Rattle.chip_laws.specs.MessageLaws.{MessageLaws}
+use Rattle.chip_laws.proofs.ArrivedMessages.{came_fits}
 use Rattle.chip_laws.proofs.UnitFrames.{each_unit, same_units}
 use Rattle.chip_laws.proofs.SupplyCounts.{count_by-drop}
 use Rattle.chip_laws.proofs.SupplyFrames.{same_counts, one_more}
 use Rattle.chip_laws.proofs.SuppliedEvents.{Holds, unit_holds, delivered_within}
 use Rattle.chip_laws.proofs.TileAgreements.{keeps_of, own_request_fits}
-use Rattle.chip_laws.proofs.RequestsInside.{tile_of, tiles_some, request_inside}
+use Rattle.chip_laws.proofs.RequestsInside.{tile_of, request_inside}
 use Rattle.chip_laws.proofs.NetworkFrames.{injected_sets, delivered_sets}
 use Rattle.supply_laws.proofs.KeptOrders.{posted_order, taken_order, hopped_order}
 use Rattle.supply_laws.proofs.WordsDue.{due, backs_in_channels, channels_same, units_counts, due_unchanged, due_stepped, due_delivered, due_comes}
 use Rattle.supply_laws.proofs.WriteBackSends.{backs_in}
-use Rattle.supply_laws.proofs.Ticked.{accords_of, ticked}
+use Rattle.supply_laws.proofs.Ticked.{ticked_network, ticked}
 use Rattle.supply_laws.proofs.NewWriteBacks.{OrdersMore}
 
 -- ---- the four things that an event may be
@@ -163,22 +162,22 @@ arrives_as : (msg : Msg) (node : Node) (kind : MsgKind) → msg.kind ≡ kind �
 unfolding node_after_message
 arrives_as msg node kind is = ap (λ (k : MsgKind). (arrived_as msg node k).0) is
 
-comes_event : (d : Doc) (s new : ChipState) (u : ℕ) (unit after : UnitState) (port : Port) (slot : ℕ) (msg : Msg) (kind : MsgKind) → msg.kind ≡ kind → ChangesUnit s new u unit after
+comes_event : MessageLaws → (d : Doc) (s new : ChipState) (u : ℕ) (unit after : UnitState) (port : Port) (slot : ℕ) (msg : Msg) (kind : MsgKind) → msg.kind ≡ kind → ChangesUnit s new u unit after
     → after.node ≡ (node_after_message msg unit.node).0 → after_data_eject s.replies u port slot ≡ Some (msg, new.replies)
     → new.network.ordered ≡ s.network.ordered → MessageFits (chip_of d) msg → BackEvent d s new
-comes_event d s new u unit after port slot msg Data kind c node came order fits =
+comes_event messages d s new u unit after port slot msg Data kind c node came order fits =
     let same : SameHome unit.node after.node = subst (SameHome unit.node) (sym (node ∙ arrives_as msg unit.node Data kind)) (data_home msg unit.node) in
     stays (record {
       order = order;
       due = λ line.
-          let sum = due_comes s new line u unit after port slot msg c node same.delivered came order in
+          let sum = due_comes messages s new line u unit after port slot msg c node same.delivered came order in
           let none : count_if (is_back_for line msg) ≡ 0 = ap (λ (k : MsgKind). count_if (is_back k && (msg.line == line))) kind in
           omega (arith, sum, none);
       counts = counts_le s new (same_counts s new u unit after c same.delivered);
       homes = each_unit (λ t other. WasHome s t other.node) s new u unit after c (record { was = unit; at = c.at; same = same })
           (λ t other away at. record { was = other; at = at; same = record { records = refl; delivered = refl } });
     })
-comes_event d s new u unit after port slot msg Back kind c node came order fits =
+comes_event messages d s new u unit after port slot msg Back kind c node came order fits =
     let now = node ∙ arrives_as msg unit.node Back kind in
     let same : after.node.delivered ≡ unit.node.delivered = ap (λ (x : Node). x.delivered) now in
     returns (record {
@@ -189,11 +188,11 @@ comes_event d s new u unit after port slot msg Back kind c node came order fits 
       changes = c;
       node = now;
       order = order;
-      due = λ line. due_comes s new line u unit after port slot msg c node same came order;
+      due = λ line. due_comes messages s new line u unit after port slot msg c node same came order;
       counts = counts_le s new (same_counts s new u unit after c same);
       kind = kind;
       fits = fits;
-      here = (received_is s.replies u port slot (msg, new.replies) came).here;
+      here = messages.here s.replies new.replies u port slot msg came;
     })
 
 -- ---- a request is delivered
@@ -232,16 +231,16 @@ delivers_event d s new u unit after q holds c node order replies next line =
     })
 
 -- ---- a tick
-tick_event : (d : Doc) (s new : ChipState) → DocFits d → ProtocolHolds d s → ChangesNetwork (after_network_tick (chip_of d) s.network) s new → BackEvent d s new
+tick_event : (d : Doc) (s new : ChipState) → DocLaws d → ProtocolHolds d s → ChangesNetwork (after_network_tick (chip_of d) s.network) s new → BackEvent d s new
 tick_event d s new fits holds does =
     let is = ticked d s new fits holds does in
-    let keeps = keeps-tick (chip_of d) s.network (accords_of (chip_of d) s.network holds.network.requests) (tiles_some d fits) new.network does.network in
+    let after = ticked_network d s new fits holds does in
     orders is.more (record {
       grows = record { units = is.units; order = is.order; replies = does.replies };
       within = delivered_within d s holds;
       sources = λ k q at.
           let there : slice_get new.network.ordered k ≡ Some q = ap (λ (rs : List Request). slice_get rs k) is.order ∙ at in
-          let tile = tile_of d s q.source holds (source_below (tile_count (chip_of d)) new.network.ordered new.network.windows.closed k q (tiles_some d fits) keeps.accords.in_order there) in
+          let tile = tile_of d s q.source holds (fits.inside new.network k q after there) in
           record {
             unit = tile.unit;
             at = tile.unit_at;
@@ -258,37 +257,36 @@ tick_event d s new fits holds does =
 network_event : (d : Doc) (s new : ChipState) (step : Option OrderedNetwork) → ChangesNetwork step s new → new.network.ordered ≡ s.network.ordered → BackEvent d s new
 network_event d s new step does order = no_unit d s new does.units order (λ line. channels_same s new line does.replies)
 
-pub back_event : Nearer → (b : Behaviour) (laws : KeepsLaws b) (d : Doc) (s new : ChipState) (event : Event) → DocFits d → ProtocolHolds d s → UnitsFit b laws s → DeliveriesFit d s
+pub back_event : MessageLaws → (b : Behaviour) (laws : KeepsLaws b) (d : Doc) (s new : ChipState) (event : Event) → DocLaws d → ProtocolHolds d s → UnitsFit b laws s → DeliveriesFit d s
     → EventDoes b (chip_of d) s new event → BackEvent d s new
-back_event nearer b laws d s new Tick fits holds fit next does = tick_event d s new fits holds does
-back_event nearer b laws d s new (Post t) fits holds fit next does = network_event d s new _ does (posted_order s.network new.network t does.network)
-back_event nearer b laws d s new (Take t) fits holds fit next does = network_event d s new _ does (taken_order s.network new.network t does.network)
-back_event nearer b laws d s new (Hop r port slot out) fits holds fit next does =
+back_event messages b laws d s new Tick fits holds fit next does = tick_event d s new fits holds does
+back_event messages b laws d s new (Post t) fits holds fit next does = network_event d s new _ does (posted_order s.network new.network t does.network)
+back_event messages b laws d s new (Take t) fits holds fit next does = network_event d s new _ does (taken_order s.network new.network t does.network)
+back_event messages b laws d s new (Hop r port slot out) fits holds fit next does =
     network_event d s new _ does (hopped_order (chip_of d) s.network new.network r port slot out does.network)
-back_event nearer b laws d s new (Core t) fits holds fit next does =
+back_event messages b laws d s new (Core t) fits holds fit next does =
     let own = unit_holds d s t does.unit holds does.changes.at in
     let works = laws.stepped does.unit (fit t does.unit does.changes.at) does.ready in
     same_queue d s new t does.unit (b.stepped does.unit).0 does.changes (same_order s new does.network) does.replies
     (core_queue does.unit (b.stepped does.unit) own.holds.node.fits.side.cache works.1)
-back_event nearer b laws d s new (Inject t) fits holds fit next does =
+back_event messages b laws d s new (Inject t) fits holds fit next does =
     same_queue d s new t does.unit (record does.unit { node = after_request_sent does.unit.node }) does.changes
     (injected_sets (chip_of d) s.network new.network t does.kind does.line does.network).1.ordered does.replies (asked_queue does.unit.node)
-back_event nearer b laws d s new (Eject t) fits holds fit next does =
+back_event messages b laws d s new (Eject t) fits holds fit next does =
     let law = laws.delivered does.request does.unit (fit t does.unit does.changes.at) in
     let at = next t does.unit does.request new.network does.changes.at does.network in
     delivers_event d s new t does.unit (b.delivered does.request does.unit).0 does.request holds does.changes law.1.goes_on.node
     (delivered_sets (chip_of d) s.network new.network t does.request does.network).1.ordered does.replies at
     (request_inside d s does.unit.node.delivered does.request fits holds at).line
-back_event nearer b laws d s new (Send t) fits holds fit next does =
+back_event messages b laws d s new (Send t) fits holds fit next does =
     one_unit d s new t does.unit (record does.unit { node = after_message_sent does.unit.node }) does.changes (same_order s new does.network) (sent_home does.unit.node) (λ line.
     let channels : backs_in_channels new line ≡ backs_in_channels s line + count_if (is_back_for line does.msg) =
-    total-after_send (λ m. count_if (is_back_for line m)) s.replies new.replies t does.msg does.replies in
+    messages.adds (λ m. count_if (is_back_for line m)) s.replies new.replies t does.msg does.replies in
     omega (arith, channels, sent_backs line does.unit.node does.msg does.first))
-back_event nearer b laws d s new (DataHop r port slot) fits holds fit next does =
+back_event messages b laws d s new (DataHop r port slot) fits holds fit next does =
     no_unit d s new does.units (same_order s new does.network) (λ line.
-    total-after_data_hop (λ msg. count_if (is_back_for line msg)) (chip_of d).grid s.replies new.replies r port slot nearer fits.chip.tiles does.replies)
-back_event nearer b laws d s new (DataEject r port slot) fits holds fit next does =
+    messages.keeps (λ msg. count_if (is_back_for line msg)) (chip_of d).grid s.replies new.replies r port slot fits.doc.chip.tiles does.replies)
+back_event messages b laws d s new (DataEject r port slot) fits holds fit next does =
     let law = laws.received does.msg does.unit (fit r does.unit does.changes.at) in
-    let stood = (received_is s.replies r port slot (does.msg, new.replies) does.replies).stood in
-    comes_event d s new r does.unit (b.received does.msg does.unit).0 port slot does.msg does.msg.kind refl does.changes law.1.goes_on.node does.replies
-    (same_order s new does.network) (holds.network.messages r (port_number port) slot does.msg stood)
+    comes_event messages d s new r does.unit (b.received does.msg does.unit).0 port slot does.msg does.msg.kind refl does.changes law.1.goes_on.node does.replies
+    (same_order s new does.network) (came_fits messages d s r port slot does.msg new.replies holds.network does.replies)

@@ -10,10 +10,12 @@ pub returns-clause-opened : goal.returns-clause-opened
 returns-clause-opened c = nodes_opened
 
 pub returns-clause-stepped : goal.returns-clause-stepped
-returns-clause-stepped c = λ b laws d s new event fits holds fit arrive e. nodes_hold b laws d s new event fits holds fit (deliveries_fit d s fits holds) arrive (event_does b (chip_of d) s new event e)
+returns-clause-stepped c = λ b laws d s new event fits holds fit arrive e.
+    let given = c.chip_network_laws.ensures.requests d fits in
+    nodes_hold b laws d s new event given holds fit (deliveries_fit d s given holds) arrive (event_does b (chip_of d) s new event e)
 
 pub returns-clause-own : goal.returns-clause-own
-returns-clause-own c = λ d s t unit q net fits holds at delivers. own_requests_fit d s t unit q net holds (deliveries_fit d s fits holds) at delivers
+returns-clause-own c = λ d s t unit q net fits holds at delivers. own_requests_fit d s t unit q net holds (deliveries_fit d s (c.chip_network_laws.ensures.requests d fits) holds) at delivers
 
 pub returns-clause-next : goal.returns-clause-next
-returns-clause-next c = deliveries_fit
+returns-clause-next c = λ d s fits holds. deliveries_fit d s (c.chip_network_laws.ensures.requests d fits) holds

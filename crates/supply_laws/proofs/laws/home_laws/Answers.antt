@@ -4,8 +4,10 @@ use Rattle.supply_laws.proofs.laws.home_laws.Goals as goal
 
 pub returns : goal.returns
 returns c = record {
-  memory_opened = memory_opened;
-  memory = λ b laws d s new event fits holds fit e. reaches_after c.route_laws.ensures.nearer b laws d s new event fits holds fit e;
+  memory_opened = memory_opened c.chip_network_laws.ensures.messages;
+  memory = λ b laws d s new event fits holds fit e.
+      reaches_after c.chip_network_laws.ensures.messages b laws d s new event (c.chip_network_laws.ensures.requests d fits) holds fit e;
   homes_opened = homes_opened;
-  homes = λ b laws d s new event fits holds fit none e. homes_hold_after c.route_laws.ensures.nearer b laws d s new event fits holds fit none e;
+  homes = λ b laws d s new event fits holds fit none e.
+      homes_hold_after c.chip_network_laws.ensures.messages b laws d s new event (c.chip_network_laws.ensures.requests d fits) holds fit none e;
 }
