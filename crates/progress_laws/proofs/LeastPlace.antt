@@ -64,10 +64,11 @@ nothing_left chip net place q r p slot copy some fits at_place all stands named 
     let none = owed_no_more at_place way.tile to.item to.there (all way.tile to.item to.there) in
     omega arith
 
--- ---- a copy at a router that owes a side goes on
-pub goes_on : (chip : Chip) (net : OrderedNetwork) (place : ℕ) (q : Request) (r p slot : ℕ) (copy : NetCopy) (out : Port) (n : ℕ) → HasTiles chip.grid → NetworkFits chip net → AllTaken net → AllCameTo net place → StandsAt chip net place q
+-- ---- a copy at a router that owes an output port to a neighbour hops
+pub copy_moves : (chip : Chip) (net : OrderedNetwork) (place : ℕ) (q : Request) (r p slot : ℕ) (copy : NetCopy) (out : Port) (n : ℕ) → HasTiles chip.grid → NetworkFits chip net → AllTaken net
+    → AllCameTo net place → StandsAt chip net place q
     → at net.copies r p slot ≡ Some copy → is_named (name_of q) copy.request ≡ true → owes copy out ≡ true → Edge chip.grid copy.request.source r out n → DeliveryMoves chip net
-goes_on chip net place q r p slot copy out n some fits all came at_place stands named owed edge =
+copy_moves chip net place q r p slot copy out n some fits all came at_place stands named owed edge =
     let port = port_of p (port_below chip.grid chip.vcs true net.copies r p slot copy fits.channels (fits.copies.stand r p slot copy stands).inside stands) in
     hops r port.port slot out
     (can_hop chip net r port.port slot out copy n (Some (name_of q)) (sym (rw edge.next expected)) (rw port.is stands) owed edge.next
@@ -79,7 +80,7 @@ goes_on chip net place q r p slot copy out n some fits all came at_place stands 
     to : HasItem net.interfaces n
     to = interface_at chip net n fits inside
 
-    -- the router behind the side is owed the request
+    -- the next router is owed the request
     owed_there : Owes chip.grid net.copies (name_of q) n
     owed_there = record { router = r; port = p; slot = slot; copy = copy; out = out; stands = stands; is_named = named; owed = owed; leads = there edge here }
 
@@ -120,20 +121,26 @@ goes_on chip net place q r p slot copy out n some fits all came at_place stands 
     reserved = by (reserved_is chip.grid chip.vcs net.copies r out n some fits.channels edge.next)
 
 -- ---- a copy at its tile is delivered
-pub is_delivered : (chip : Chip) (net : OrderedNetwork) (t : ℕ) (to : Interface) (q : Request) (p slot : ℕ) (copy : NetCopy) → NetworkFits chip net → AllTaken net → slice_get net.interfaces t ≡ Some to → StandsAt chip net to.delivered q
+pub is_delivered : (chip : Chip) (net : OrderedNetwork) (t : ℕ) (to : Interface) (q : Request) (p slot : ℕ) (copy : NetCopy) → NetworkFits chip net → AllTaken net
+    → slice_get net.interfaces t ≡ Some to → StandsAt chip net to.delivered q
     → at net.copies t p slot ≡ Some copy → is_named (name_of q) copy.request ≡ true → owes copy L ≡ true → DeliveryMoves chip net
 is_delivered chip net t to q p slot copy fits all to_there at_place stands named owed =
-    ejects t (omega (arith, slice_get_within net.interfaces t to to_there, fits.interfaces)) (is_some-after_delivery chip net t to (name_of q) (serve_found net.copies t (name_of q)) to_there (expects_it chip net t to q fits all to_there at_place)
+    ejects t (omega (arith, slice_get_within net.interfaces t to to_there, fits.interfaces))
+    (is_some-after_delivery chip net t to (name_of q) (serve_found net.copies t (name_of q)) to_there (expects_it chip net t to q fits all to_there at_place)
     ∙ (local_found net.copies t (name_of q)).1 (record { port = p; slot = slot; copy = copy; stands = stands; is_named = named; owed = owed }))
 
--- a copy that leads to the tile stands there, or has a side to go on by
-follow : (chip : Chip) (net : OrderedNetwork) (to : Interface) (q : Request) (p slot : ℕ) (copy : NetCopy) (r : ℕ) (out : Port) (t : ℕ) → HasTiles chip.grid → NetworkFits chip net → AllTaken net → AllCameTo net to.delivered
-    → slice_get net.interfaces t ≡ Some to → StandsAt chip net to.delivered q → at net.copies r p slot ≡ Some copy → is_named (name_of q) copy.request ≡ true → owes copy out ≡ true → Leads chip.grid copy.request.source r out t → DeliveryMoves chip net
+-- a copy that leads to the tile stands there, or has an output port to hop by
+follow : (chip : Chip) (net : OrderedNetwork) (to : Interface) (q : Request) (p slot : ℕ) (copy : NetCopy) (r : ℕ) (out : Port) (t : ℕ) → HasTiles chip.grid → NetworkFits chip net
+    → AllTaken net → AllCameTo net to.delivered
+    → slice_get net.interfaces t ≡ Some to → StandsAt chip net to.delivered q → at net.copies r p slot ≡ Some copy → is_named (name_of q) copy.request ≡ true → owes copy out ≡ true
+    → Leads chip.grid copy.request.source r out t → DeliveryMoves chip net
 follow chip net to q p slot copy r out t some fits all came to_there at_place stands named owed here = is_delivered chip net t to q p slot copy fits all to_there at_place stands named owed
-follow chip net to q p slot copy r out t some fits all came to_there at_place stands named owed (there {n = n} edge leads) = goes_on chip net to.delivered q r p slot copy out n some fits all came at_place stands named owed edge
+follow chip net to q p slot copy r out t some fits all came to_there at_place stands named owed (there {n = n} edge leads) =
+    copy_moves chip net to.delivered q r p slot copy out n some fits all came at_place stands named owed edge
 
 -- where every tile has taken every vector and a tile that is behind no other has not delivered all, a request moves
-pub undelivered_moves : (chip : Chip) (net : OrderedNetwork) (t : ℕ) (to : Interface) → HasTiles chip.grid → NetworkFits chip net → AllTaken net → AllCameTo net to.delivered → slice_get net.interfaces t ≡ Some to → to.delivered < length net.ordered
+pub undelivered_moves : (chip : Chip) (net : OrderedNetwork) (t : ℕ) (to : Interface) → HasTiles chip.grid → NetworkFits chip net → AllTaken net → AllCameTo net to.delivered
+    → slice_get net.interfaces t ≡ Some to → to.delivered < length net.ordered
     → DeliveryMoves chip net
 undelivered_moves chip net t to some fits all came to_there less =
     let next = item_at net.ordered to.delivered less in

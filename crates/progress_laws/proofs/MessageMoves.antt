@@ -49,7 +49,8 @@ reply_port_is g vcs net r port some have inside =
     port_is net r (port_number port) (omega arith) (omega (arith, normal_there g vcs false net r have inside))
 
 -- ---- a message that stands somewhere
-pub router_inside : {P : Type 0} (g : Grid) (normal : ℕ) (reserved : Bool) (net : Network P) (r p slot : ℕ) (packet : P) → HasChannels g normal reserved net → at net r p slot ≡ Some packet → r < tiles g
+pub router_inside : {P : Type 0} (g : Grid) (normal : ℕ) (reserved : Bool) (net : Network P) (r p slot : ℕ) (packet : P) → HasChannels g normal reserved net → at net r p slot ≡ Some packet
+    → r < tiles g
 unfolding slots
 router_inside g normal reserved net r p slot packet have stands =
     let within : slot < length (slots_at (channels_of net r) p) = place_of net r p slot packet stands in
@@ -68,18 +69,21 @@ can_hop g net r port slot msg n entry stands next lowest = rw (stands, next, low
 moves_below : (g : Grid) (vcs : ℕ) (net : Network Msg) → HasTiles g → 0 < vcs → HasChannels g vcs false net → IsOnRoute g net → AreForTiles g net
     → (bound : ℕ) (r : ℕ) (port : Port) (slot : ℕ) (msg : Msg) → rank g r port < bound → at net r (port_number port) slot ≡ Some msg → MessageMoves g net
 moves_below g vcs net some some_vcs have routes for_tiles zero r port slot msg below stands = absurd (omega arith)
-moves_below g vcs net some some_vcs have routes for_tiles (suc bound) r port slot msg below stands = by (cases_eq msg.to r) (λ n port slot other lower is. moves_below g vcs net some some_vcs have routes for_tiles bound n port slot other lower is)
+moves_below g vcs net some some_vcs have routes for_tiles (suc bound) r port slot msg below stands =
+    by (cases_eq msg.to r) (λ n port slot other lower is. moves_below g vcs net some some_vcs have routes for_tiles bound n port slot other lower is)
   where
     inside : r < tiles g
     inside = router_inside g vcs false net r (port_number port) slot msg have stands
 
-    behind : ((n : ℕ) (port : Port) (slot : ℕ) (other : Msg) → rank g n port < bound → at net n (port_number port) slot ≡ Some other → MessageMoves g net) → (n : ℕ) → neighbour g r (route g r msg.to) ≡ Some n → PortIs net n (port_number (opposite (route g r msg.to))) → MessageMoves g net
+    behind : ((n : ℕ) (port : Port) (slot : ℕ) (other : Msg) → rank g n port < bound → at net n (port_number port) slot ≡ Some other → MessageMoves g net) → (n : ℕ)
+        → neighbour g r (route g r msg.to) ≡ Some n → PortIs net n (port_number (opposite (route g r msg.to))) → MessageMoves g net
     behind moves n next (free entry lowest) = message_hops r port slot (can_hop g net r port slot msg n entry stands next lowest)
     behind moves n next (full other stands_too) =
         let lower = rank-hop g msg.to r n port some (routes r slot port msg stands) next in
         moves n (opposite (route g r msg.to)) 0 other (omega arith) stands_too
 
-    by : (msg.to ≡ r) ⊎ (msg.to ≢ r) → ((n : ℕ) (port : Port) (slot : ℕ) (other : Msg) → rank g n port < bound → at net n (port_number port) slot ≡ Some other → MessageMoves g net) → MessageMoves g net
+    by : (msg.to ≡ r) ⊎ (msg.to ≢ r) → ((n : ℕ) (port : Port) (slot : ℕ) (other : Msg) → rank g n port < bound → at net n (port_number port) slot ≡ Some other → MessageMoves g net)
+        → MessageMoves g net
     by (inl same) moves = message_ejects r port slot inside (can_eject net r port slot msg stands same)
     by (inr other) moves =
         let way = route_goes_on g r msg.to some inside (for_tiles r (port_number port) slot msg stands) (λ same. other (sym same)) in

@@ -22,7 +22,6 @@ use Rattle.net_iface.proofs.Places.{item_at}
 use Rattle.net_iface.proofs.Steps.{is_some-after_network_tick, is_some-after_request_post, is_some-after_vector_take}
 use Rattle.progress_laws.specs.NetworkMoves.{DeliveryMoves, NetworkMoves, AllDelivered, NetworkRests, takes, delivers, ticks, posts}
 use Rattle.progress_laws.specs.NetworkMoves.{takes, ticks}
-use Rattle.chip_model.specs.Delivery.{passes}
 use Rattle.progress_laws.proofs.Searches.{Passes, NonePasses, search_list, Least, least_in}
 use Rattle.progress_laws.proofs.OwedRequests.{AllTaken, times_in_front}
 use Rattle.progress_laws.proofs.OwedRequests.{ordered_le}
@@ -50,7 +49,8 @@ can_post w t phase none within =
     let free : has_tile w.posts t ≡ false = ap (λ (set : ℕ). has_tile set t) none ∙ has_tile-none t in
     rw (first, lt-ltb t (length w.taken) within, free) refl
 
-pub unordered_moves : (chip : Chip) (net : OrderedNetwork) (t : ℕ) (interface : Interface) → NetworkFits chip net → slice_get net.interfaces t ≡ Some interface → count_by_tile t net.ordered < length interface.made → NetworkMoves chip net
+pub unordered_moves : (chip : Chip) (net : OrderedNetwork) (t : ℕ) (interface : Interface) → NetworkFits chip net → slice_get net.interfaces t ≡ Some interface
+    → count_by_tile t net.ordered < length interface.made → NetworkMoves chip net
 unordered_moves chip net t interface fits there less = elim (cases_lt 0 net.windows.posts) [
   | inl some ↦ ticks (is_some-after_network_tick chip net ∙ can_tick chip net.windows some)
   | inr none ↦
@@ -71,7 +71,8 @@ unordered_moves chip net t interface fits there less = elim (cases_lt 0 net.wind
 abbrev pub AllOrdered : OrderedNetwork → Type 0
 AllOrdered net = (t : ℕ) (interface : Interface) → slice_get net.interfaces t ≡ Some interface → length interface.made ≡ count_by_tile t net.ordered
 
-no_copy_stands : (chip : Chip) (net : OrderedNetwork) (r p slot : ℕ) (copy : NetCopy) → HasTiles chip.grid → NetworkFits chip net → AllOrdered net → AllDelivered net → at net.copies r p slot ≡ Some copy → ⊥
+no_copy_stands : (chip : Chip) (net : OrderedNetwork) (r p slot : ℕ) (copy : NetCopy) → HasTiles chip.grid → NetworkFits chip net → AllOrdered net → AllDelivered net
+    → at net.copies r p slot ≡ Some copy → ⊥
 no_copy_stands chip net r p slot copy some fits ordered all_there stands =
     let on = fits.copies.stand r p slot copy stands in
     let way = leads_to_tile chip.grid copy.request.source r on.some.0 some on.inside (on.outs on.some.0 on.some.1) in
@@ -113,7 +114,8 @@ delivery_moves chip net some fits = by_taken (search_list untaken net.windows.ta
     undelivered : ℕ → Interface → Bool
     undelivered t interface = nat_lt interface.delivered (length net.ordered)
 
-    moves_least : AllTaken net → Least (λ (interface : Interface). interface.delivered) net.interfaces → (t : ℕ) (interface : Interface) → slice_get net.interfaces t ≡ Some interface → interface.delivered < length net.ordered → DeliveryMoves chip net
+    moves_least : AllTaken net → Least (λ (interface : Interface). interface.delivered) net.interfaces → (t : ℕ) (interface : Interface) → slice_get net.interfaces t ≡ Some interface
+        → interface.delivered < length net.ordered → DeliveryMoves chip net
     moves_least taken least t interface there less =
         let below = least.least t interface there in
         undelivered_moves chip net least.place least.item some fits taken least.least least.there (omega arith)
@@ -122,7 +124,10 @@ delivery_moves chip net some fits = by_taken (search_list untaken net.windows.ta
     by_delivered taken (inl one) =
         inl (moves_least taken (least_in (λ (interface : Interface). interface.delivered) net.interfaces one.place one.item one.there) one.place one.item one.there (ltb-true _ _ one.passes))
     by_delivered taken (inr none) =
-        inr (record { taken = taken; delivered = λ t interface there. omega (arith, (fits.agree t interface there).within, ltb-false interface.delivered (length net.ordered) (none t interface there)) })
+        inr (record {
+          taken = taken;
+          delivered = λ t interface there. omega (arith, (fits.agree t interface there).within, ltb-false interface.delivered (length net.ordered) (none t interface there));
+        })
 
     by_taken : Passes untaken net.windows.taken ⊎ NonePasses untaken net.windows.taken → DeliveryMoves chip net ⊎ AllDelivered net
     by_taken (inl one) = inl (untaken_moves chip net one.place one.item one.there (ltb-true _ _ one.passes))

@@ -34,7 +34,8 @@ count-take-le t (q ∷ requests) (suc a) (suc b) below =
     let rest = count-take-le t requests a b (omega arith) in
     omega (arith, count-cons t q (take a requests), count-cons t q (take b requests))
 
-pub count-take-lt : (t : ℕ) (requests : List Request) (a b : ℕ) (q : Request) → slice_get requests a ≡ Some q → q.source ≡ t → a < b → count_by_tile t (take a requests) < count_by_tile t (take b requests)
+pub count-take-lt : (t : ℕ) (requests : List Request) (a b : ℕ) (q : Request) → slice_get requests a ≡ Some q → q.source ≡ t → a < b
+    → count_by_tile t (take a requests) < count_by_tile t (take b requests)
 count-take-lt t [] a b q is source below = cc
 count-take-lt t (first ∷ requests) a zero q is source below = absurd (omega arith)
 count-take-lt t (first ∷ requests) zero (suc b) q is source below =
@@ -47,7 +48,8 @@ count-take-lt t (first ∷ requests) (suc a) (suc b) q is source below =
     omega (arith, count-cons t first (take a requests), count-cons t first (take b requests))
 
 -- ---- what a tile made
-made_split : (net : OrderedNetwork) (t : ℕ) (interface : Interface) → InterfaceAgrees net t interface → requests_of t net.ordered ++ drop (count_by_tile t net.ordered) interface.made ≡ interface.made
+made_split : (net : OrderedNetwork) (t : ℕ) (interface : Interface) → InterfaceAgrees net t interface
+    → requests_of t net.ordered ++ drop (count_by_tile t net.ordered) interface.made ≡ interface.made
 made_split net t interface agrees =
     ap (λ (xs : List Request). xs ++ drop (count_by_tile t net.ordered) interface.made) agrees.ordered ∙ take-append-drop (count_by_tile t net.ordered) interface.made
 
@@ -59,7 +61,8 @@ ordered_le net t interface agrees =
     omega (arith, length-requests_of t net.ordered, ap length agrees.ordered, length-take (count_by_tile t net.ordered) interface.made)
 
 -- how often a request with a number stands in the front of the order
-pub times_in_front : (net : OrderedNetwork) (t k place : ℕ) (interface : Interface) → InterfaceAgrees net t interface → times_named (t, k) (take place net.ordered) ≡ cond (nat_lt k (count_by_tile t (take place net.ordered))) 1 0
+pub times_in_front : (net : OrderedNetwork) (t k place : ℕ) (interface : Interface) → InterfaceAgrees net t interface
+    → times_named (t, k) (take place net.ordered) ≡ cond (nat_lt k (count_by_tile t (take place net.ordered))) 1 0
 times_in_front net t k place interface agrees = times_named-ordered t k place net.ordered (drop (count_by_tile t net.ordered) interface.made) (made_all net t interface agrees)
 
 -- ---- the request at a place
@@ -110,13 +113,15 @@ stands_at chip net place q some fits there = record { there = there; source = in
         let front = times_in_front net q.source q.number to.delivered from agrees ∙ ap (λ (b : Bool). cond b 1 0) (ordered_by to.delivered) in
         omega (arith, whole, front, made_once)
 
-pub still_owed : {chip : Chip} {net : OrderedNetwork} {place : ℕ} {q : Request} → StandsAt chip net place q → (t : ℕ) (to : Interface) → slice_get net.interfaces t ≡ Some to → to.delivered ≤ place → owing chip.grid net.copies (name_of q) t ≡ 1
+pub still_owed : {chip : Chip} {net : OrderedNetwork} {place : ℕ} {q : Request} → StandsAt chip net place q → (t : ℕ) (to : Interface) → slice_get net.interfaces t ≡ Some to
+    → to.delivered ≤ place → owing chip.grid net.copies (name_of q) t ≡ 1
 still_owed {place = place} at t to there behind =
     let all = at.owed t to there in
     let none : ◌≡◌ {A = ℕ} (cond (nat_lt place to.delivered) 1 0) 0 = ap (λ (b : Bool). cond b 1 0) (le-ltb place to.delivered behind) in
     omega arith
 
-pub owed_no_more : {chip : Chip} {net : OrderedNetwork} {place : ℕ} {q : Request} → StandsAt chip net place q → (t : ℕ) (to : Interface) → slice_get net.interfaces t ≡ Some to → place < to.delivered → owing chip.grid net.copies (name_of q) t ≡ 0
+pub owed_no_more : {chip : Chip} {net : OrderedNetwork} {place : ℕ} {q : Request} → StandsAt chip net place q → (t : ℕ) (to : Interface) → slice_get net.interfaces t ≡ Some to
+    → place < to.delivered → owing chip.grid net.copies (name_of q) t ≡ 0
 owed_no_more {place = place} at t to there before =
     let all = at.owed t to there in
     let one : ◌≡◌ {A = ℕ} (cond (nat_lt place to.delivered) 1 0) 1 = ap (λ (b : Bool). cond b 1 0) (lt-ltb place to.delivered before) in
@@ -129,14 +134,16 @@ AllTaken net = (t count : ℕ) → slice_get net.windows.taken t ≡ Some count 
 named : ℕ → ℕ → Option Name
 named source number = Some (source, number)
 
-entry_is : (ordered : List Request) (place : ℕ) (q : Request) → slice_get ordered place ≡ Some q → q.number ≡ count_by_tile q.source (take place ordered) → entry_at (sources ordered) place ≡ Some (name_of q)
+entry_is : (ordered : List Request) (place : ℕ) (q : Request) → slice_get ordered place ≡ Some q → q.number ≡ count_by_tile q.source (take place ordered)
+    → entry_at (sources ordered) place ≡ Some (name_of q)
 unfolding named
 entry_is ordered place q there number =
     let source : slice_get (sources ordered) place ≡ Some q.source = slice_get-map (λ (r : Request). r.source) ordered place ∙ ap (option_map (λ (r : Request). r.source)) there in
     let count : times q.source (take place (sources ordered)) ≡ q.number = ap (times q.source) (take-map (λ (r : Request). r.source) place ordered) ∙ sym number in
     rw source (ap (named q.source) count)
 
-pub expects_it : (chip : Chip) (net : OrderedNetwork) (t : ℕ) (to : Interface) (q : Request) → NetworkFits chip net → AllTaken net → slice_get net.interfaces t ≡ Some to → StandsAt chip net to.delivered q → expected_at chip net t ≡ Some (name_of q)
+pub expects_it : (chip : Chip) (net : OrderedNetwork) (t : ℕ) (to : Interface) (q : Request) → NetworkFits chip net → AllTaken net → slice_get net.interfaces t ≡ Some to
+    → StandsAt chip net to.delivered q → expected_at chip net t ≡ Some (name_of q)
 unfolding expected_at
 expects_it chip net t to q fits all there at =
     let within : t < length net.windows.taken = omega (arith, slice_get_within net.interfaces t to there, fits.interfaces, fits.windows.tiles) in

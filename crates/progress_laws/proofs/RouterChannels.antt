@@ -1,4 +1,4 @@
--- A copy leads somewhere, and the channels behind its side.
+-- A copy leads to some tile, and the channels of the router at its next hop.
 use Rattle.std.proofs.Common.{◌≡◌, ℕ, zero, suc, ◌+◌, ◌<◌, Bool, true, false, refl, ◌∙◌, ap, arith, Option, Some, None, [], length}
 use Rattle.std.specs.Prelude.{slice_get, is_some, ◌&&◌}
 use Rattle.std.specs.Option.{option_or}
@@ -55,7 +55,8 @@ port_of (suc (suc (suc (suc (suc n))))) below = absurd (omega arith)
 pub bank_there : {P : Type 0} (g : Grid) (normal : ℕ) (reserved : Bool) (net : Network P) (r : ℕ) → HasChannels g normal reserved net → r < tiles g → slice_get net r ≡ Some (channels_of net r)
 bank_there g normal reserved net r have inside = slice_get-get_or net r [] (omega (arith, have.routers))
 
-pub port_below : {P : Type 0} (g : Grid) (normal : ℕ) (reserved : Bool) (net : Network P) (r p slot : ℕ) (packet : P) → HasChannels g normal reserved net → r < tiles g → at net r p slot ≡ Some packet → p < 5
+pub port_below : {P : Type 0} (g : Grid) (normal : ℕ) (reserved : Bool) (net : Network P) (r p slot : ℕ) (packet : P) → HasChannels g normal reserved net → r < tiles g
+    → at net r p slot ≡ Some packet → p < 5
 unfolding slots
 port_below g normal reserved net r p slot packet have inside stands =
     let within : slot < length (slots_at (channels_of net r) p) = place_of net r p slot packet stands in
@@ -69,20 +70,22 @@ pub stands_there : {P : Type 0} (net : Network P) (r p slot : ℕ) (packet : P) 
 unfolding at
 stands_there net r p slot packet is = get_or_from_slice_get (slots_at (channels_of net r) p) slot (Some packet) None is
 
--- a port behind a side has a reserved channel
-reserved_slots : (P : Type 0) (vcs : ℕ) (g : Grid) (r : ℕ) (out : Port) (n : ℕ) → neighbour g r out ≡ Some n → length (slots_at (empty_channels {P = P} vcs true) (port_number (opposite out))) ≡ vcs + 1
+-- the port by which a packet comes from a neighbour has a reserved channel
+reserved_slots : (P : Type 0) (vcs : ℕ) (g : Grid) (r : ℕ) (out : Port) (n : ℕ) → neighbour g r out ≡ Some n
+    → length (slots_at (empty_channels {P = P} vcs true) (port_number (opposite out))) ≡ vcs + 1
 reserved_slots P vcs g r L n next = cc
 reserved_slots P vcs g r E n next = length-replicate {A = Option P} (vcs + 1) None
 reserved_slots P vcs g r W n next = length-replicate {A = Option P} (vcs + 1) None
 reserved_slots P vcs g r N n next = length-replicate {A = Option P} (vcs + 1) None
 reserved_slots P vcs g r S n next = length-replicate {A = Option P} (vcs + 1) None
 
--- the reserved channel behind a side is free, or a copy stands in it
+-- the reserved channel of that port is free, or a copy stands in it
 pub data ReservedIs (net : Network NetCopy) (n p vcs : ℕ) : Type 0 where
   free : reserved_free (channels_of net n) p ≡ true → ReservedIs net n p vcs
   held : (copy : NetCopy) → at net n p vcs ≡ Some copy → ReservedIs net n p vcs
 
-pub reserved_is : (g : Grid) (vcs : ℕ) (net : Network NetCopy) (r : ℕ) (out : Port) (n : ℕ) → HasTiles g → HasChannels g vcs true net → neighbour g r out ≡ Some n → ReservedIs net n (port_number (opposite out)) vcs
+pub reserved_is : (g : Grid) (vcs : ℕ) (net : Network NetCopy) (r : ℕ) (out : Port) (n : ℕ) → HasTiles g → HasChannels g vcs true net → neighbour g r out ≡ Some n
+    → ReservedIs net n (port_number (opposite out)) vcs
 reserved_is g vcs net r out n some have next =
     let p = port_number (opposite out) in
     let inside = neighbour_inside g r out n some next in
