@@ -1,5 +1,5 @@
 -- Every state that a chip reaches: what holds of the opening, and of each event what it keeps, part by part.
-use Rattle.std.proofs.Common.{◌≡◌, ◌×◌, ℕ, refl, sym, ◌∙◌, ap, subst, Some, None, Option, List, [], ◌∷◌, length, slice_get}
+use Rattle.std.proofs.Common.{◌≡◌, ℕ, refl, sym, ◌∙◌, ap, subst, Some, None, Option, List, [], ◌∷◌, length, slice_get}
 use Rattle.std.proofs.lemmas.Option.{same_Some}
 use Rattle.report_text.specs.declared.event.Event.{Event}
 use Rattle.doc_text.specs.Doc.{Doc}

@@ -36,7 +36,7 @@ use Rattle.chip_laws.proofs.SuppliedEvents.{Holds, unit_holds, delivered_within}
 use Rattle.chip_laws.proofs.TileAgreements.{keeps_of, own_request_fits}
 use Rattle.chip_laws.proofs.RequestsInside.{tile_of, tiles_some, request_inside}
 use Rattle.chip_laws.proofs.NetworkFrames.{injected_sets, delivered_sets}
-use Rattle.chip_laws.proofs.OrderGrows.{posted_order, taken_order, hopped_order}
+use Rattle.net_iface.proofs.StepParts.{request_posted, vector_taken, copy_moved}
 use Rattle.supply_laws.proofs.WordsDue.{due, backs_in_channels, channels_same, units_counts, due_unchanged, due_stepped, due_delivered, due_comes}
 use Rattle.supply_laws.proofs.WriteBackSends.{backs_in}
 use Rattle.supply_laws.proofs.Ticked.{accords_of, ticked}
@@ -261,10 +261,10 @@ network_event d s new step does order = no_unit d s new does.units order (λ lin
 pub back_event : Nearer → (b : Behaviour) (laws : KeepsLaws b) (d : Doc) (s new : ChipState) (event : Event) → DocFits d → ProtocolHolds d s → UnitsFit b laws s → DeliveriesFit d s
     → EventDoes b (chip_of d) s new event → BackEvent d s new
 back_event nearer b laws d s new Tick fits holds fit next does = tick_event d s new fits holds does
-back_event nearer b laws d s new (Post t) fits holds fit next does = network_event d s new _ does (posted_order s.network new.network t does.network)
-back_event nearer b laws d s new (Take t) fits holds fit next does = network_event d s new _ does (taken_order s.network new.network t does.network)
+back_event nearer b laws d s new (Post t) fits holds fit next does = network_event d s new _ does (request_posted s.network new.network t does.network).sets.ordered
+back_event nearer b laws d s new (Take t) fits holds fit next does = network_event d s new _ does (vector_taken s.network new.network t does.network).same.ordered
 back_event nearer b laws d s new (Hop r port slot out) fits holds fit next does =
-    network_event d s new _ does (hopped_order (chip_of d) s.network new.network r port slot out does.network)
+    network_event d s new _ does (copy_moved (chip_of d) s.network new.network r port slot out does.network).same.ordered
 back_event nearer b laws d s new (Core t) fits holds fit next does =
     let own = unit_holds d s t does.unit holds does.changes.at in
     let works = laws.stepped does.unit (fit t does.unit does.changes.at) does.ready in
