@@ -1,7 +1,7 @@
-//! Laws of the two networks, over the definitions alone: until all is done some step is possible.
-//! At run time they do nothing.
+//! Laws of the whole chip, over its definitions alone: until all is done some event is possible,
+//! and then none is. At run time they do nothing.
 #![tactic(auto)]
 
 mod laws;
 
-pub use laws::{message_progress_laws, request_progress_laws};
+pub use laws::{chip_progress_laws, message_progress_laws, request_progress_laws};
