@@ -1,0 +1,16 @@
+pub mod OrderedTiles
+pub mod Searches
+pub mod ListSums
+pub mod OwedRequests
+pub mod RouterChannels
+pub mod LeastPlace
+pub mod NetworkMoves
+pub mod MessageMoves
+pub mod EnabledEvents
+pub mod QuietStates
+pub mod AnsweredGets
+pub mod IdleUnits
+pub mod NeverStuck
+pub mod FinishedStates
+pub mod Stops
+pub mod EnabledSlots

@@ -1,0 +1,3 @@
+pub mod NetworkMoves
+pub mod MessageMoves
+pub mod Possible
