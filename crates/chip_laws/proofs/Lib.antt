@@ -50,3 +50,4 @@ pub mod Calls
 pub mod Deliveries
 pub mod WaitingAccesses
 pub mod NetworkEvents
+pub mod OrderedTiles

@@ -26,7 +26,7 @@ use Rattle.net_iface.proofs.Orders.{order_split, length-order_from-ge, each_wind
 use Rattle.net_iface.proofs.Room.{length-ordered}
 use Rattle.chip_laws.specs.DocFits.{DocFits}
 use Rattle.chip_laws.proofs.RequestsInside.{tile_of}
-use Rattle.progress_laws.proofs.OrderedTiles.{tiles_some}
+use Rattle.chip_laws.proofs.OrderedTiles.{tiles_some}
 use Rattle.supply_laws.proofs.GetPlaces.{get_drop}
 use Rattle.progress_laws.specs.NetworkMoves.{AllDelivered, NetworkRests}
 use Rattle.progress_laws.specs.MessageMoves.{NoMessages}

@@ -1,4 +1,3 @@
-pub mod OrderedTiles
 pub mod Searches
 pub mod ListSums
 pub mod OwedRequests

@@ -28,7 +28,7 @@ use Rattle.chip_laws.proofs.NodeMessages.{home_inside}
 use Rattle.chip_laws.proofs.OrderFrames.{holds_at}
 use Rattle.chip_laws.proofs.OrderLists.{get_take}
 use Rattle.chip_laws.proofs.RequestsInside.{tile_of}
-use Rattle.progress_laws.proofs.OrderedTiles.{source_inside}
+use Rattle.chip_laws.proofs.OrderedTiles.{source_inside}
 use Rattle.supply_laws.proofs.WordsDue.{due}
 use Rattle.supply_laws.proofs.ReachedWords.{reached_none}
 use Rattle.progress_laws.specs.NetworkMoves.{NetworkRests}
