@@ -1,0 +1,4 @@
+pub mod Sequences
+pub mod Inserted
+pub mod LineValues
+pub mod ExecutionEnds
