@@ -66,7 +66,7 @@ all_there (n ∷ steps) (program ∷ programs) (core ∷ cores) g =
     let rest = some_of (cores_at steps programs cores) (all_there steps programs cores others) in
     ap is_some (ap (λ (o : Option CoreState). o >>= λ r. cores_at steps programs cores >>= λ x. Some (r ∷ x)) ready.1 ∙ ap (λ (o : Option (List CoreState)). o >>= λ x. Some (ready.0 ∷ x)) rest.1)
 
--- the cores at the start
+-- each core at the start is a new one
 
 new_at : (count k t : ℕ) → t < count → slice_get (map new_core (range_with_len k count)) t ≡ Some (new_core (k + t))
 new_at zero k t within = absurd (omega arith)
@@ -75,7 +75,7 @@ new_at (suc count) k (suc t) within =
     let same : (k + 1) + t ≡ k + suc t = omega arith in
     new_at count (k + 1) t (omega arith) ∙ ap (λ (n : ℕ). Some (new_core n)) same
 
-first_core : (programs : List (List Instr)) (memory : List ℕ) (t : ℕ) → t < length programs → slice_get (start programs memory).cores t ≡ Some (new_core t)
+pub first_core : (programs : List (List Instr)) (memory : List ℕ) (t : ℕ) → t < length programs → slice_get (start programs memory).cores t ≡ Some (new_core t)
 first_core programs memory t within =
     let same : 0 + t ≡ t = omega arith in
     new_at (length programs) 0 t within ∙ ap (λ (n : ℕ). Some (new_core n)) same

@@ -1,0 +1,11 @@
+pub mod Sequences
+pub mod Inserted
+pub mod LineValues
+pub mod ExecutionEnds
+pub mod Executions
+pub mod Finished
+pub mod FinalWords
+pub mod FinalMemory
+pub mod SettledLines
+pub mod Passing
+pub mod CoreSteps
