@@ -64,10 +64,10 @@ runs_access words program start core new own a runs number makes =
     option_and_then_some (λ last. core_at core.steps program last) (made_all words program start own) core runs (λ last before there.
     let ready : core_at a.number program last ≡ Some core = ap (λ (n : ℕ). core_at n program last) number ∙ there in
     let after : made_all words program start (own ++ a ∷ []) ≡ Some new =
-        made_all-push words program start own a
-        ∙ ap (λ (o : Option CoreState). o >>= λ c. made_by words program c a) before
-        ∙ ap (λ (o : Option CoreState). o >>= λ c. made words program c a (next_of program c) a.kind) ready
-        ∙ makes in
+    made_all-push words program start own a
+    ∙ ap (λ (o : Option CoreState). o >>= λ c. made_by words program c a) before
+    ∙ ap (λ (o : Option CoreState). o >>= λ c. made words program c a (next_of program c) a.kind) ready
+    ∙ makes in
     ap (λ (o : Option CoreState). o >>= λ c. core_at new.steps program c) after ∙ core_at-itself program new)
 
 -- what was done of an access that waited, with the word that was there
@@ -102,7 +102,7 @@ made_next chip program core access a (Adds register sum value) does is =
     let is_add : a.kind ≡ kind.Add = does.kind ∙ is.0 in
     let read : a.old ≡ does.word = does.old ∙ ap (λ k. old_word k does.word) is.0 in
     let same : word_after kind.Add value a.old ≡ a.value =
-        ap (word_after kind.Add value) read ∙ ap (λ (v : ℕ). word_after kind.Add v does.word) (sym is.2) ∙ sym (does.value ∙ ap (λ k. word_after k access.value does.word) is.0) in
+    ap (word_after kind.Add value) read ∙ ap (λ (v : ℕ). word_after kind.Add v does.word) (sym is.2) ∙ sym (does.value ∙ ap (λ k. word_after k access.value does.word) is.0) in
     let test = and_from _ _ (right_place chip access a sum does.address is.1) (eq-eqb (word_after kind.Add value a.old) a.value same) in
     rw (is_add, test) refl
 made_next chip program core access a (Becomes new) does is = absurd is

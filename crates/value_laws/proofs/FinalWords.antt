@@ -77,11 +77,11 @@ tile_words d s line t fits h over is_owner =
     let holds = tile.holds in
     let done = unit_done s t tile.unit over tile.unit_at in
     let owned : is_owned_copy (lookup tile.unit.node.chip tile.unit.node.side.cache line) ≡ true =
-        sym (only_copies tile.unit.node.chip tile.unit.node line done.demand done.back)
-        ∙ holds.serves.owns.lines line
-        ∙ ap (λ (requests : List Request). is_tile tile.unit.node.tile (owner line requests)) (all_delivered s tile.unit done)
-        ∙ ap (is_tile tile.unit.node.tile) is_owner
-        ∙ eq-eqb t tile.unit.node.tile (sym holds.node.agrees.tile) in
+    sym (only_copies tile.unit.node.chip tile.unit.node line done.demand done.back)
+    ∙ holds.serves.owns.lines line
+    ∙ ap (λ (requests : List Request). is_tile tile.unit.node.tile (owner line requests)) (all_delivered s tile.unit done)
+    ∙ ap (is_tile tile.unit.node.tile) is_owner
+    ∙ eq-eqb t tile.unit.node.tile (sym holds.node.agrees.tile) in
     let (held, here, exclusive) = owned_of (lookup tile.unit.node.chip tile.unit.node.side.cache line) owned in
     let value = copy_value d s tile.unit.node line held held.state exclusive ((h.values.nodes t tile.unit tile.unit_at).copies line held here) in
     ap (λ (o : Option UnitState). unwrap_or (option_map (λ (x : UnitState). words_held (lookup (chip_of d) x.node.side.cache line)) o) []) tile.unit_at
@@ -109,14 +109,14 @@ memory_words d s line fits h over small is_owner =
     let done = unit_done s (home (chip_of d) line) tile.unit over tile.unit_at in
     let within : line < tile.unit.node.chip.lines = subst (λ (chip : Chip). line < chip.lines) (sym holds.node.chip) small in
     let at_home : (home tile.unit.node.chip line == tile.unit.node.tile) ≡ true =
-        eq-eqb (home tile.unit.node.chip line) tile.unit.node.tile (ap (λ (chip : Chip). home chip line) holds.node.chip ∙ sym holds.node.agrees.tile) in
+    eq-eqb (home tile.unit.node.chip line) tile.unit.node.tile (ap (λ (chip : Chip). home chip line) holds.node.chip ∙ sym holds.node.agrees.tile) in
     let (r, here) = record_of (get_or tile.unit.node.records line None) (holds.node.fits.lines.records line within ∙ at_home) in
     let owner_is : r.owner ≡ Memory = holds.serves.owns.records line r here ∙ ap (owner line) (all_delivered s tile.unit done) ∙ is_owner in
     let none : due s line ≡ 0 = omega (arith, none_in_flight s line over, none_to_come d s line fits h.protocol over) in
     let fresh : r.fresh ≡ true =
-        holds.serves.fresh line r here
-        ∙ ap (is_fresh_by s tile.unit.node line) owner_is
-        ∙ come_at_end s line (last_written_back line (delivered_to s.network.ordered tile.unit.node)) none in
+    holds.serves.fresh line r here
+    ∙ ap (is_fresh_by s tile.unit.node line) owner_is
+    ∙ come_at_end s line (last_written_back line (delivered_to s.network.ordered tile.unit.node)) none in
     let value = subst (λ (o : Owner). RecordHasValue d s tile.unit.node line r o) owner_is ((h.values.nodes (home (chip_of d) line) tile.unit tile.unit_at).records line r here fresh) in
     ap (λ (o : Option UnitState). unwrap_or (option_map (λ (x : UnitState). words_recorded (get_or x.node.records line None)) o) []) tile.unit_at
     ∙ ap words_recorded here
