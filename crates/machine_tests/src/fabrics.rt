@@ -1,5 +1,5 @@
 //! The calls of a fabric: one request from its injection to its delivery, one message, a hop of each, and refusals.
-ghost use Rattle.std.specs.Prelude.{◌<◌, IfOk, length};
+ghost use Rattle.std.specs.Prelude.{◌≡◌, ◌<◌, IfOk, length};
 ghost use Rattle.std.specs.Bool.{OnTrue};
 ghost use Rattle.chip_model.specs.Chip.{tile_count};
 ghost use Rattle.fabric_core.specs.Fabric.{MayNote};
@@ -34,11 +34,15 @@ fn may_note(fabric: &Fabric, cores: u8) -> bool
     cores <= 16 && u64::from(cores) < fabric.spare()
 }
 
-fn tile_zero(cores: u8) -> Made {
+fn tile_zero(cores: u8) -> Made
+    ensures { result ≡ record { by = 0; cores = cores } }
+{
     Made { by: 0, cores }
 }
 
-fn words_for(to: u8) -> Msg {
+fn words_for(to: u8) -> Msg
+    ensures { result.to ≡ to }
+{
     Msg {
         to,
         kind: MsgKind::Data,
