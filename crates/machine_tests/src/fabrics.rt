@@ -99,6 +99,47 @@ fn receive_one(fabric: &mut Fabric) -> Result<Msg, NotEnabled> {
     fabric.data_eject(tile_zero(0), 0, Port::L, 0)
 }
 
+// Tile 0 posts.
+fn post_alone(fabric: &mut Fabric) -> Result<(), NotEnabled> {
+    if !may_note(fabric, 0) {
+        return Ok(());
+    }
+    fabric.post(tile_zero(0), 0)
+}
+
+// A tick passes.
+fn tick_alone(fabric: &mut Fabric) -> Result<(), NotEnabled> {
+    if !may_note(fabric, 0) {
+        return Ok(());
+    }
+    fabric.tick(tile_zero(0))
+}
+
+// A message goes on from the router of tile 0.
+fn data_hop_alone(fabric: &mut Fabric) -> Result<(), NotEnabled> {
+    if !may_note(fabric, 0) {
+        return Ok(());
+    }
+    fabric.data_hop(tile_zero(0), 0, Port::L, 0)
+}
+
+// Tile 0 makes a request.
+fn inject_alone(fabric: &mut Fabric) -> Result<(), NotEnabled> {
+    if !may_note(fabric, 0) {
+        return Ok(());
+    }
+    fabric.inject(tile_zero(0), Kind::GetS, 1)
+}
+
+#[test]
+fn a_full_channel_takes_in_no_request(rt: HostRuntime) -> Result<(), Fail> {
+    let mut fabric = one_tile(rt.alloc())?;
+    assert_eq!(rt; post_one(&mut fabric), Ok(()));
+    assert_eq!(rt; inject_alone(&mut fabric), Err(NotEnabled));
+    assert_eq!(rt; fabric.length(), 4);
+    Ok(())
+}
+
 #[test]
 fn a_fabric_is_opened(rt: HostRuntime) -> Result<(), Fail> {
     let fabric = one_tile(rt.alloc())?;
@@ -187,6 +228,9 @@ fn what_is_not_possible_leaves_no_entry(rt: HostRuntime) -> Result<(), Fail> {
     assert_eq!(rt; take_one(&mut fabric), Err(NotEnabled));
     assert_eq!(rt; eject_one(&mut fabric), Err(NotEnabled));
     assert_eq!(rt; receive_one(&mut fabric), Err(NotEnabled));
+    assert_eq!(rt; post_alone(&mut fabric), Err(NotEnabled));
+    assert_eq!(rt; tick_alone(&mut fabric), Err(NotEnabled));
+    assert_eq!(rt; data_hop_alone(&mut fabric), Err(NotEnabled));
     assert_eq!(rt; fabric.can_post(tile_zero(0), 0), false);
     assert_eq!(rt; fabric.can_tick(tile_zero(0)), false);
     assert_eq!(rt; fabric.can_inject(tile_zero(0), Kind::GetS, 1), true);
