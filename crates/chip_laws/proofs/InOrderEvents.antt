@@ -48,7 +48,7 @@ pub record UnitIs (s : ChipState) (t : ℕ) (unit : UnitState) : Type 0 where
   pub latest : latest_time unit.node ≤ unit.node.delivered
   pub late : (place : ℕ) (access : Access) → slice_get s.accesses place ≡ Some access → access.tile ≡ t → access.time ≤ latest_time unit.node
 
-unit_is : (d : Doc) (s : ChipState) (t : ℕ) (unit : UnitState) → ProtocolHolds d s → slice_get s.units t ≡ Some unit → UnitIs s t unit
+pub unit_is : (d : Doc) (s : ChipState) (t : ℕ) (unit : UnitState) → ProtocolHolds d s → slice_get s.units t ≡ Some unit → UnitIs s t unit
 unit_is d s t unit holds at =
     let tile = tile_of d s t holds (tile_of_unit d s t unit holds at) in
     let same : tile.unit ≡ unit = same_Some tile.unit unit (sym tile.unit_at ∙ at) in
@@ -63,7 +63,7 @@ late_by : (s : ChipState) (t : ℕ) (unit : UnitState) (one : Done) → UnitIs s
 late_by s t unit one is after place access at own = omega (arith, is.late place access at own, after)
 
 -- ---- one unit changed
-own_tile : (t : ℕ) (unit : UnitState) (step : Performed) → unit.node.tile ≡ t → (a : Access) → (performed unit step).1 ≡ Some a → a.tile ≡ t
+pub own_tile : (t : ℕ) (unit : UnitState) (step : Performed) → unit.node.tile ≡ t → (a : Access) → (performed unit step).1 ≡ Some a → a.tile ≡ t
 own_tile t unit (node, None) tile a e = none_some a e
 own_tile t unit (node, Some done) tile a e = ap (λ (x : Access). x.tile) (sym (same_Some (access_of unit done) a e)) ∙ tile
 
@@ -86,7 +86,7 @@ node_changes s new t unit node holds changes accesses chip waits =
 hits_late : (s : ChipState) (t : ℕ) (unit : UnitState) → UnitIs s t unit → HitsLate s t unit
 hits_late s t unit is access step tried one done = late_by s t unit one is (omega (arith, is.latest, accessed_time access unit.node step one tried done))
 
-event_of : (unit : UnitState) (o : Option Acted) → is_some o ≡ true → o ≡ Some (unwrap_or o (unit, None))
+pub event_of : (unit : UnitState) (o : Option Acted) → is_some o ≡ true → o ≡ Some (unwrap_or o (unit, None))
 event_of unit None e = absurd (false≢true e)
 event_of unit (Some acted) e = refl
 
@@ -107,7 +107,7 @@ executed_tile t unit (Stores sum value) acted tile e = tried_tile t unit Store s
 executed_tile t unit (Swaps register sum value) acted tile e = tried_tile t unit Swap sum value acted tile e
 executed_tile t unit (Adds register sum value) acted tile e = tried_tile t unit Add sum value acted tile e
 
-core_tile : (t : ℕ) (unit : UnitState) (acted : Acted) → unit.node.tile ≡ t → core_event unit ≡ Some acted → OwnTile t acted
+pub core_tile : (t : ℕ) (unit : UnitState) (acted : Acted) → unit.node.tile ≡ t → core_event unit ≡ Some acted → OwnTile t acted
 unfolding core_event
 core_tile t unit acted tile e =
     when_some (not (unit.halted || has_entry unit.node)) (executed unit (next_effect unit)) acted e (λ free does. executed_tile t unit (next_effect unit) acted tile does)

@@ -26,11 +26,11 @@ get_replicate zero k x y at = none_some y at
 get_replicate (suc count) zero x y at = same_Some x y at
 get_replicate (suc count) (suc k) x y at = get_replicate count k x y at
 
-abbrev new_unit : Doc → ℕ → UnitState
+abbrev pub new_unit : Doc → ℕ → UnitState
 new_unit d t = opening_unit (chip_of d) t (program_of d t) d.memory
 
 -- the unit of a tile before any event
-opened_unit : (d : Doc) (t : ℕ) (unit : UnitState) → slice_get (opening d).units t ≡ Some unit → new_unit d t ≡ unit
+pub opened_unit : (d : Doc) (t : ℕ) (unit : UnitState) → slice_get (opening d).units t ≡ Some unit → new_unit d t ≡ unit
 opened_unit d t unit at =
     option_map_some (new_unit d) (slice_get (upwards 0 (tile_count (chip_of d))) t) unit (sym (slice_get-map (new_unit d) (upwards 0 (tile_count (chip_of d))) t) ∙ at) (λ x there same.
     let place : t ≡ x = sym (get_upwards 0 (tile_count (chip_of d)) t x there ∙ plain t) in

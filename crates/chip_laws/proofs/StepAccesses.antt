@@ -1,5 +1,5 @@
 -- What a step of a node does to the access that waits, and which access it completes.
-use Rattle.std.proofs.Common.{◌≡◌, ℕ, Bool, true, false, cond, refl, sym, ◌∙◌, subst, Option, Some, None, List}
+use Rattle.std.proofs.Common.{◌≡◌, ℕ, ◌+◌, Bool, true, false, cond, refl, sym, ◌∙◌, subst, Option, Some, None, List}
 use Rattle.std.specs.Prelude.{◌==◌, ◌||◌, is_some, if◌then◌else◌, not}
 use Rattle.std.proofs.lemmas.Bool.{cond_both}
 use Rattle.std.proofs.lemmas.Option.{same_Some}
@@ -17,16 +17,23 @@ use Rattle.chip_model.specs.declared.pending.Pending.{Pending}
 use Rattle.chip_model.specs.Chip.{Chip, line_of}
 use Rattle.chip_model.specs.Cache.{Cache, Held, lookup, has_room, without_shared, lowest_for}
 use Rattle.chip_model.specs.Misses.{Demand, WriteBack, Misses, sent_demand, sent_by, marked_sent, is_getm, is_written_back}
-use Rattle.chip_model.specs.Snoop.{CacheSide, Outcome, with_cache, completed, completed_load, completed_store, words_here, ordered_with, own_get, own_put, own_request, holding, snooped_with, after_snoop, data_at, data_for, after_data}
+use Rattle.chip_model.specs.Snoop.{CacheSide, Outcome, with_cache, completed, completed_load, completed_store, done_by, words_here, ordered_with, own_get, own_put, own_request, holding, snooped_with, after_snoop, data_at, data_for, after_data}
 use Rattle.chip_model.specs.Node.{Node, Performed, node_after_request, arrived_as, node_after_message, after_request_sent, holds_back, has_entry, load_hit, store_to, missed, victim_evicted, back_started, unless_written_back, demand_started, accessed_with, node_after_access}
 use Rattle.snoop_core.proofs.SnoopSteps.{snoop_forms}
 use Rattle.chip_laws.proofs.Options.{none_some, when_some}
 
--- what was done was one of these accesses
+-- what was done was one of these accesses, at some time and by the words that were there
 pub record Was (Is : Pending → Type 0) (one : Done) : Type 0 where
   pub access : Pending
   pub is : Is access
   pub kind : one.kind ≡ access.kind
+  pub time : ℕ
+  pub words : List ℕ
+  pub by : one ≡ done_by access time words
+
+-- an access with the words that were there
+was_done : (Is : Pending → Type 0) (access : Pending) (time : ℕ) (words : List ℕ) → Is access → Was Is (done_by access time words)
+was_done Is access time words is = record { access = access; is = is; kind = refl; time = time; words = words; by = refl }
 
 -- each access that waits, and the one that is completed, is one of these; where one is completed none waits
 pub record GoesOn (Is : Pending → Type 0) (side : CacheSide) (done : Option Done) : Type 0 where
@@ -63,8 +70,8 @@ completed_goes : (Is : Pending → Type 0) (chip : Chip) (demand : Demand) (plac
     → Goes Is (completed chip demand place words side)
 completed_goes Is chip demand place words side is =
     cond_both (is_getm demand.kind) (completed_store chip demand place words side) (completed_load chip demand place words side) (Goes Is)
-    (λ writes. completely Is (completed_store chip demand place words side).side _ refl (record { access = demand.pending; is = is; kind = refl }))
-    (λ reads. completely Is (completed_load chip demand place words side).side _ refl (record { access = demand.pending; is = is; kind = refl }))
+    (λ writes. completely Is (completed_store chip demand place words side).side _ refl (was_done Is demand.pending (place + 1) words is))
+    (λ reads. completely Is (completed_load chip demand place words side).side _ refl (was_done Is demand.pending (place + 1) words is))
 
 ordered_goes : (Is : Pending → Type 0) (chip : Chip) (side : CacheSide) (place : ℕ) (demand : Demand) (words : Option (List ℕ)) → Is demand.pending
     → Goes Is (ordered_with chip side place demand words)
@@ -182,7 +189,7 @@ upgrade_goes Is access node step is e =
 
 store_goes : (Is : Pending → Type 0) (access : Pending) (held : Held) (node : Node) (state : State) (step : Performed) → Is access → node.side.misses.demand ≡ None
     → store_to access held node state ≡ Some step → StepGoesOn Is node step
-store_goes Is access held node M step is free e = subst (StepGoesOn Is node) (same_Some _ step e) (record { chip = refl; tile = refl; goes = completely Is _ _ free (record { access = access; is = is; kind = refl }) })
+store_goes Is access held node M step is free e = subst (StepGoesOn Is node) (same_Some _ step e) (record { chip = refl; tile = refl; goes = completely Is _ _ free (was_done Is access node.delivered held.words is) })
 store_goes Is access held node O step is free e = upgrade_goes Is access node step is e
 store_goes Is access held node S step is free e = upgrade_goes Is access node step is e
 
@@ -194,7 +201,7 @@ copy_goes Is access node None step is free e =
 copy_goes Is access node (Some held) step is free e = by (writes access.kind) e where
   by : (changes : Bool) → (if changes then store_to access held node held.state else Some (load_hit access held node)) ≡ Some step → StepGoesOn Is node step
   by true e = store_goes Is access held node held.state step is free e
-  by false e = subst (StepGoesOn Is node) (same_Some _ step e) (record { chip = refl; tile = refl; goes = completely Is node.side _ free (record { access = access; is = is; kind = refl }) })
+  by false e = subst (StepGoesOn Is node) (same_Some _ step e) (record { chip = refl; tile = refl; goes = completely Is node.side _ free (was_done Is access node.delivered held.words is) })
 
 pub free_of : (entry : Option Demand) → not (is_some entry) ≡ true → entry ≡ None
 free_of None e = refl

@@ -9,10 +9,8 @@ use Rattle.chip_model.specs.ChipState.{ChipState}
 use Rattle.chip_model.specs.Runs.{noted}
 use Rattle.chip_model.specs.BehaviourLaws.{KeepsLaws}
 use Rattle.chip_model.specs.Suppliers.{ReachesMemory, GetsWait}
-use Rattle.chip_model.specs.Writers.{IsTimely}
-use Rattle.chip_model.specs.UnitShape.{InOrderHolds}
 use Rattle.chip_model.specs.ChipInvariant.{NetworkHolds, NodeHolds, NodeServes, UnitHolds, ProtocolHolds, CoresInOrder}
-use Rattle.supply_laws.specs.OpenGets.{WaitsFor, DataAnswersGets}
+use Rattle.supply_laws.specs.OpenGets.{WaitsFor}
 use Rattle.supply_laws.specs.Reachable.{StateHolds}
 
 noted_network : (d : Doc) (s : ChipState) (e : Event) → NetworkHolds d s → NetworkHolds d (noted e s)

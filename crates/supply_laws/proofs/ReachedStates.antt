@@ -1,16 +1,15 @@
 -- Every state that a chip reaches: what holds of the opening, and of each event what it keeps, part by part.
-use Rattle.std.proofs.Common.{◌≡◌, ℕ, refl, sym, ◌∙◌, ap, subst, Some, None, Option, List, [], ◌∷◌, length, slice_get}
+use Rattle.std.proofs.Common.{◌≡◌, subst, Some, List, [], ◌∷◌}
 use Rattle.std.proofs.lemmas.Option.{same_Some}
 use Rattle.report_text.specs.declared.event.Event.{Event}
 use Rattle.doc_text.specs.Doc.{Doc}
-use Rattle.chip_model.specs.Partial.{◌>>=◌}
-use Rattle.chip_model.specs.Chip.{Chip, chip_of, tile_count}
-use Rattle.chip_model.specs.Units.{UnitState, Behaviour, in_order}
-use Rattle.chip_model.specs.ChipState.{ChipState, opening}
+use Rattle.chip_model.specs.Chip.{Chip, chip_of}
+use Rattle.chip_model.specs.Units.{Behaviour, in_order}
+use Rattle.chip_model.specs.ChipState.{ChipState}
 use Rattle.chip_model.specs.Events.{step}
 use Rattle.chip_model.specs.Runs.{noted, after, run}
 use Rattle.chip_model.specs.BehaviourLaws.{KeepsLaws}
-use Rattle.chip_model.specs.ChipInvariant.{NetworkHolds, ProtocolHolds, CoresInOrder}
+use Rattle.chip_model.specs.ChipInvariant.{ProtocolHolds, CoresInOrder}
 use Rattle.chip_laws.specs.DocFits.{DocFits}
 use Rattle.chip_laws.proofs.Options.{bind}
 use Rattle.supply_laws.specs.Reachable.{StateHolds}
@@ -20,7 +19,8 @@ use Rattle.supply_laws.proofs.NotedStates.{noted_state, noted_cores}
 abbrev pub IsKept : Type 0
 IsKept = (b : Behaviour) (laws : KeepsLaws b) (d : Doc) (s new : ChipState) (event : Event) → DocFits d → StateHolds b laws d s → step b (chip_of d) s event ≡ Some new → StateHolds b laws d new
 
-noted_after : (b : Behaviour) (chip : Chip) (s new : ChipState) (event : Event) → after b chip s event ≡ Some new → (left : ChipState) × (step b chip s event ≡ Some left) × (noted event left ≡ new)
+-- an event leads to the state after its step, with the event in the journal
+pub noted_after : (b : Behaviour) (chip : Chip) (s new : ChipState) (event : Event) → after b chip s event ≡ Some new → (left : ChipState) × (step b chip s event ≡ Some left) × (noted event left ≡ new)
 unfolding after
 noted_after b chip s new event e =
     bind (step b chip s event) (λ left. Some (noted event left)) new e (λ left stepped done. (left, stepped, same_Some (noted event left) new done))

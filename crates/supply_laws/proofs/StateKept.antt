@@ -1,12 +1,11 @@
 -- What every event keeps, joined: each part of the new state from its own law.
-use Rattle.std.proofs.Common.{◌≡◌, ℕ, refl, sym, ◌∙◌, ap, Some, List, length, set, slice_get}
+use Rattle.std.proofs.Common.{◌≡◌, ℕ, ◌∙◌, ap, Some, List, length}
 use Rattle.std.proofs.lemmas.List.{length-set}
 use Rattle.std.proofs.lemmas.List.FromFn.{length-map-range_with_len}
 use Rattle.report_text.specs.declared.event.Event.{Event}
 use Rattle.report_text.specs.declared.event.Event.TheVariants.{Tick, Core, Inject, Post, Take, Eject, Send, Hop, DataHop, DataEject}
 use Rattle.doc_text.specs.Doc.{Doc}
 use Rattle.chip_model.specs.Chip.{Chip, chip_of, tile_count}
-use Rattle.chip_model.specs.OrderedNetwork.{Interface}
 use Rattle.chip_model.specs.Units.{UnitState, Behaviour, opening_unit}
 use Rattle.chip_model.specs.ChipState.{ChipState, program_of, opening}
 use Rattle.chip_model.specs.Events.{step}

@@ -1,5 +1,5 @@
 -- What a core makes alone, with one more instruction: a register instruction, or an access.
-use Rattle.std.proofs.Common.{◌≡◌, ℕ, ◌+◌, ◌-◌, ◌*◌, ◌%◌, ◌≤◌, suc, Bool, true, false, cond, ◌==◌, ◌&&◌, leb, List, [], ◌∷◌, ◌++◌, Option, Some, None, option_and_then, sym, ap, ◌∙◌}
+use Rattle.std.proofs.Common.{◌≡◌, ℕ, ◌+◌, ◌-◌, ◌*◌, ◌%◌, ◌≤◌, suc, true, ◌==◌, leb, List, [], ◌∷◌, ◌++◌, Option, Some, option_and_then, sym, ap, ◌∙◌}
 use Rattle.std.proofs.Common.{refl, subst, eq-eqb, arith}
 use Rattle.std.proofs.lemmas.Bool.{le-leb, and_from}
 use Rattle.std.proofs.lemmas.Bool.Decides.{nat_tests}

@@ -1,5 +1,5 @@
 -- The accesses of a chip in sequence are a sequential execution of the first steps of its programs.
-use Rattle.std.proofs.Common.{◌≡◌, ℕ, ◌*◌, ◌<◌, suc, List, [], ◌∷◌, Option, Some, None, IsSome, is_some, option_map, length, map, filter, slice_get, get_or, sym, ap, ◌∙◌, refl, subst, arith}
+use Rattle.std.proofs.Common.{◌≡◌, ℕ, ◌*◌, ◌<◌, suc, List, [], ◌∷◌, Option, Some, None, IsSome, is_some, option_map, length, filter, slice_get, get_or, sym, ap, ◌∙◌, refl, subst, arith}
 use Rattle.std.specs.List.{AllByRecursion}
 use Rattle.std.specs.Prelude.{true}
 use Rattle.std.proofs.lemmas.Option.{same_Some, none-some, slice_get-map, get_or_from_slice_get}
@@ -14,7 +14,7 @@ use Rattle.flat_ref.specs.Execution.{IsExecution}
 use Rattle.flat_ref.specs.Order.{last_written}
 use Rattle.flat_ref.specs.Consistency.{accesses_of, run_alone, ReadsLast, IsConsistent}
 use Rattle.flat_ref.proofs.Consistent.{execution}
-use Rattle.chip_model.specs.Chip.{Chip, chip_of, tile_count}
+use Rattle.chip_model.specs.Chip.{Chip}
 use Rattle.chip_model.specs.Units.{UnitState}
 use Rattle.chip_model.specs.ChipState.{ChipState}
 use Rattle.chip_model.specs.Witness.{is_before, in_sequence, witness}

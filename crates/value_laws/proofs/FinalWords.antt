@@ -1,5 +1,5 @@
 -- In a finished chip the words of a line where its owner keeps them are the value of the line after all requests.
-use Rattle.std.proofs.Common.{◌≡◌, ℕ, ◌+◌, ◌<◌, Bool, true, false, not, ◌==◌, ◌||◌, List, [], Option, Some, None, is_some, option_map, unwrap_or, length, get_or, sym, ap, ◌∙◌, refl, subst, arith}
+use Rattle.std.proofs.Common.{◌≡◌, ℕ, ◌<◌, Bool, true, false, not, ◌==◌, ◌||◌, List, [], Option, Some, None, is_some, option_map, unwrap_or, length, get_or, sym, ap, ◌∙◌, refl, subst, arith}
 use Rattle.std.proofs.lemmas.Bool.{eq-eqb, false≢true, true≢false}
 use Rattle.std.proofs.lemmas.List.{take_all}
 use Rattle.mesh_gen.specs.declared.request.Request.{Request}

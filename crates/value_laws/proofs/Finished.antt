@@ -1,6 +1,6 @@
 -- A finished chip: each unit has nothing left to do, and no written-back words are on their way.
-use Rattle.std.proofs.Common.{◌≡◌, ℕ, ◌<◌, zero, suc, Bool, true, false, not, cond, ◌==◌, ◌&&◌, ◌||◌, List, [], ◌∷◌, Option, Some, None, is_some, length, sum_by, count_by}
-use Rattle.std.proofs.Common.{slice_get, sym, ap, ◌∙◌, refl, subst, arith}
+use Rattle.std.proofs.Common.{◌≡◌, ℕ, Bool, true, false, not, ◌==◌, ◌&&◌, ◌||◌, List, [], ◌∷◌, Option, Some, None, is_some, length, sum_by, count_by}
+use Rattle.std.proofs.Common.{slice_get, sym, ap, ◌∙◌, refl, arith}
 use Rattle.std.specs.List.{list_all, AllByRecursion}
 use Rattle.std.proofs.lemmas.Option.{slice_get_within}
 use Rattle.std.proofs.lemmas.Bool.{and_parts, eqb-true, lt-leb, not-true, or_parts}
@@ -13,7 +13,6 @@ use Rattle.vc_bank.proofs.PlaceLaws.{weigh_none}
 use Rattle.reply_net.specs.ReplyNetwork.{message_count}
 use Rattle.reply_net.proofs.Empty.{is_empty-count, none_stands}
 use Rattle.doc_text.specs.Doc.{Doc}
-use Rattle.chip_model.specs.Chip.{chip_of, tile_count}
 use Rattle.chip_model.specs.Replies.{is_empty}
 use Rattle.chip_model.specs.Units.{UnitState}
 use Rattle.chip_model.specs.ChipState.{ChipState, is_done, finished}

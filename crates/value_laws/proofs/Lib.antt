@@ -9,3 +9,5 @@ pub mod FinalMemory
 pub mod SettledLines
 pub mod Passing
 pub mod CoreSteps
+pub mod CoreEvents
+pub mod ReachedCores
