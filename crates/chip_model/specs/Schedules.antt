@@ -1,5 +1,6 @@
 -- The slots that name the possible events, and the schedules that follow from them.
-use Rattle.std.specs.Prelude.{◌≡◌, ℕ, ◌+◌, ◌*◌, ◌<◌, ◌%◌, ◌^◌, ◌==◌, Bool, true, ◌||◌, List, [], ◌∷◌, ◌++◌, length, map, take, drop, Some, unwrap_or, if◌then◌else◌, slice_get, Contains}
+use Rattle.std.specs.Prelude.{◌≡◌, ℕ, ◌+◌, ◌*◌, ◌<◌, ◌%◌, ◌^◌, ◌==◌, Bool, true, false, ◌||◌, List, [], ◌∷◌, ◌++◌, length, map, take, drop, Some, unwrap_or, if◌then◌else◌, slice_get, Contains}
+use Rattle.std.specs.Bool.{⊤}
 use Rattle.std.specs.List.{flat_map, sum_by}
 use Rattle.mesh_gen.specs.declared.port.Port.{Port}
 use Rattle.mesh_gen.specs.declared.port.Port.TheVariants.{L, E, W, N, S}
@@ -81,14 +82,25 @@ sweeps behaviour chip budget s [] = s
 sweeps behaviour chip budget s (offset ∷ offsets) =
     if ends budget s then s else sweeps behaviour chip budget (swept behaviour chip budget s (from_offset (slots chip) offset)) offsets
 
--- these offsets, one for each sweep, bring a run to its end
+-- the sweep of each of these offsets is made: the run has not ended before it
+abbrev pub AllAreMade : Behaviour → Chip → ℕ → ChipState → List ℕ → Type 0
+AllAreMade behaviour chip budget s [] = ⊤
+AllAreMade behaviour chip budget s (offset ∷ offsets) =
+    (ends budget s ≡ false) × AllAreMade behaviour chip budget (swept behaviour chip budget s (from_offset (slots chip) offset)) offsets
+
+-- these offsets, one for each sweep that is made and none more, bring a run to its end
 pub record IsSweptTo (behaviour : Behaviour) (d : Doc) (budget : ℕ) (offsets : List ℕ) (s : ChipState) : Type 0 where
   pub swept : sweeps behaviour (chip_of d) budget (opening d) offsets ≡ s
+  pub made : AllAreMade behaviour (chip_of d) budget (opening d) offsets
   pub ended : ends budget s ≡ true
 
 -- the offset that the pace of a number gives to a sweep
 abbrev pub pace_offset : ℕ → Chip → ℕ → ℕ
 pace_offset pace chip sweep = (pace * (sweep % 2 ^ 32 + 1)) % slot_count chip
+
+-- the offsets that the pace of a number gives to so many sweeps
+abbrev pub pace_offsets : ℕ → Chip → ℕ → List ℕ
+pace_offsets pace chip sweeps = map (pace_offset pace chip) (upwards 0 sweeps)
 
 -- The bound.
 
