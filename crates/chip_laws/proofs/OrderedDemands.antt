@@ -191,29 +191,24 @@ ordered_next ordered old new q demand was place tile delivered at no_get kind li
       ∙ ap (λ (b : Bool). cond b (q ∷ []) []) no_get;
 }
 
-pub follows_kind : (q : Request) (demand : Demand) → (request_follows q demand).kind ≡ demand.kind
-follows_kind q demand = by (is_get q.kind && (q.line == demand.line)) (is_getm demand.kind) (ends_in_getm demand.list) (is_getm q.kind) where
-  by : (here writes ends wants : Bool) → (cond {A = Demand} here (cond writes (cond ends demand (record demand { list = demand.list ++ waiting_of q ∷ [] })) (cond wants (record demand { once = true }) demand)) demand).kind ≡ demand.kind
+-- a request that follows a demand changes at most its list and whether it serves once
+follows_same : {A : Type 0} (f : Demand → A) (q : Request) (demand : Demand) → f (record demand { list = demand.list ++ waiting_of q ∷ [] }) ≡ f demand
+    → f (record demand { once = true }) ≡ f demand → f (request_follows q demand) ≡ f demand
+follows_same f q demand listed served = by (is_get q.kind && (q.line == demand.line)) (is_getm demand.kind) (ends_in_getm demand.list) (is_getm q.kind) where
+  by : (here writes ends wants : Bool)
+      → f (cond {A = Demand} here (cond writes (cond ends demand (record demand { list = demand.list ++ waiting_of q ∷ [] })) (cond wants (record demand { once = true }) demand)) demand)
+      ≡ f demand
   by false writes ends wants = refl
   by true true true wants = refl
-  by true true false wants = refl
-  by true false ends true = refl
+  by true true false wants = listed
+  by true false ends true = served
   by true false ends false = refl
+
+pub follows_kind : (q : Request) (demand : Demand) → (request_follows q demand).kind ≡ demand.kind
+follows_kind q demand = follows_same (λ (d : Demand). d.kind) q demand refl refl
 
 pub follows_line : (q : Request) (demand : Demand) → (request_follows q demand).line ≡ demand.line
-follows_line q demand = by (is_get q.kind && (q.line == demand.line)) (is_getm demand.kind) (ends_in_getm demand.list) (is_getm q.kind) where
-  by : (here writes ends wants : Bool) → (cond {A = Demand} here (cond writes (cond ends demand (record demand { list = demand.list ++ waiting_of q ∷ [] })) (cond wants (record demand { once = true }) demand)) demand).line ≡ demand.line
-  by false writes ends wants = refl
-  by true true true wants = refl
-  by true true false wants = refl
-  by true false ends true = refl
-  by true false ends false = refl
+follows_line q demand = follows_same (λ (d : Demand). d.line) q demand refl refl
 
 pub follows_ordered : (q : Request) (demand : Demand) → (request_follows q demand).ordered ≡ demand.ordered
-follows_ordered q demand = by (is_get q.kind && (q.line == demand.line)) (is_getm demand.kind) (ends_in_getm demand.list) (is_getm q.kind) where
-  by : (here writes ends wants : Bool) → (cond {A = Demand} here (cond writes (cond ends demand (record demand { list = demand.list ++ waiting_of q ∷ [] })) (cond wants (record demand { once = true }) demand)) demand).ordered ≡ demand.ordered
-  by false writes ends wants = refl
-  by true true true wants = refl
-  by true true false wants = refl
-  by true false ends true = refl
-  by true false ends false = refl
+follows_ordered q demand = follows_same (λ (d : Demand). d.ordered) q demand refl refl

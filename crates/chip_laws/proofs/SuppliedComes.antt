@@ -161,7 +161,7 @@ back_open : (msg : Msg) (node : Node) → msg.kind ≡ Back → SameOpen node.si
 unfolding node_after_message
 back_open msg node kind = subst (λ (k : MsgKind). SameOpen node.side.misses.demand (arrived_as msg node k).0.side.misses.demand) (sym kind) (record { early = refl; ordered = refl })
 
-same_delivered : (msg : Msg) (node : Node) → (node_after_message msg node).0.delivered ≡ node.delivered
+pub same_delivered : (msg : Msg) (node : Node) → (node_after_message msg node).0.delivered ≡ node.delivered
 unfolding node_after_message
 same_delivered msg node = by msg.kind where
   by : (kind : MsgKind) → (arrived_as msg node kind).0.delivered ≡ node.delivered

@@ -56,7 +56,7 @@ pub record Delivers (count new : ℕ → ℕ) (u : ℕ) : Type 0 where
 le_next : (n k : ℕ) → k ≢ n → nat_le (n + 1) k ≡ nat_le n k
 le_next n k away = elim (cases_eq k n) [ inl same ↦ absurd (away same) | inr other ↦ grind (arith, nat_tests, other) ]
 
-elsewhere : (count new : ℕ → ℕ) (u v k : ℕ) → Delivers count new u → k ≢ count u → nat_le (new v) k ≡ nat_le (count v) k
+pub elsewhere : (count new : ℕ → ℕ) (u v k : ℕ) → Delivers count new u → k ≢ count u → nat_le (new v) k ≡ nat_le (count v) k
 elsewhere count new u v k delivers away = elim (cases_eq v u) [
   | inl same ↦ ap (λ w. nat_le (new w) k) same ∙ ap (λ n. nat_le n k) delivers.here ∙ le_next (count u) k away ∙ ap (λ w. nat_le (count w) k) (sym same)
   | inr other ↦ ap (λ n. nat_le n k) (delivers.others v other)
@@ -76,7 +76,7 @@ le_self n = le-leb n n (omega arith)
 not_le_next : (n : ℕ) → nat_le (n + 1) n ≡ false
 not_le_next n = grind (arith, nat_tests)
 
-at_place : (count new : ℕ → ℕ) (u v : ℕ) (get : Bool) → Delivers count new u
+pub at_place : (count new : ℕ → ℕ) (u v : ℕ) (get : Bool) → Delivers count new u
     → count_if (get && nat_le (new v) (count u)) + cond (v == u) (count_if get) 0 ≡ count_if (get && nat_le (count v) (count u))
 at_place count new u v get delivers = elim (cases_eq v u) [
   | inl same ↦ (

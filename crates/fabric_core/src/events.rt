@@ -4,6 +4,7 @@ ghost use Rattle.fabric_core.specs.Fabric.{MayNote, fabric_after_inject, fabric_
 
 use crate::{Fabric, Made};
 use mesh_gen::{Kind, Msg, NotEnabled, Port, Request};
+use reply_net::channel_laws;
 use report_text::Event;
 
 // The events that touch the fabric. Each is one step of the chip, and one entry of the journal.
@@ -99,6 +100,7 @@ impl Fabric {
         ensures kept { OnErr result (self.new ≡ self.old) }
     {
         self.networks_fit();
+        channel_laws();
         match self.replies.inject(r, m) {
             Ok(()) => {
                 self.log.note(who, Event::Send { t: r });
@@ -117,6 +119,7 @@ impl Fabric {
         ensures kept { OnErr result (self.new ≡ self.old) }
     {
         self.networks_fit();
+        channel_laws();
         self.replies.hop(r, port, slot)?;
         self.log.note(who, Event::DataHop { r, port, slot });
         Ok(())
@@ -145,6 +148,7 @@ impl Fabric {
         ensures kept { OnErr result (self.new ≡ self.old) }
     {
         self.networks_fit();
+        channel_laws();
         let msg = self.replies.eject(r, port, slot)?;
         self.log.note(who, Event::DataEject { r, port, slot });
         Ok(msg)

@@ -22,6 +22,7 @@ use Rattle.chip_model.specs.NetworkFits.{requests_of}
 use Rattle.net_iface.specs.Unordered.{unordered_at, unordered_of, with_last}
 use Rattle.net_iface.specs.NetworkHolds.{OrderedNetworkHolds}
 use Rattle.net_iface.specs.Parts.{Parts, requests_of_tile, interface_of, interfaces_of, network_of, AreKept}
+use Rattle.net_iface.proofs.Kept.{sized_routers, sized_lists}
 use Rattle.net_iface.proofs.Named.{length-requests_of}
 use Rattle.net_iface.proofs.Interfaces.{other_at}
 use Rattle.net_iface.proofs.Expected.{interface_at, no_interface}
@@ -139,22 +140,9 @@ module _ (p : Parts) (routers : RequestNetwork) (q : Request) (kept : AreKept p)
   pub AreKept-inject : (unordered : List (Buffer Request)) (made : List ℕ) → unordered ≡ more → made ≡ slice_set p.made q.source (slice_index p.made q.source + 1) → routers.grid ≡ p.routers.grid → routers.vcs ≡ p.routers.vcs
       → OrderedNetworkHolds p.chip (network_of after) → AreKept (record p { routers = routers; unordered = unordered; made = made })
   AreKept-inject unordered made is counts grid vcs holds = record {
-    sizes = record {
-      some = kept.sizes.some;
-      few = kept.sizes.few;
-      grid = grid ∙ kept.sizes.grid;
-      vcs = vcs ∙ kept.sizes.vcs;
-      windows_grid = kept.sizes.windows_grid;
-      ticks = kept.sizes.ticks;
-      windows_room = kept.sizes.windows_room;
-      small = kept.sizes.small;
-      within = kept.sizes.within;
-      taken = kept.sizes.taken;
-      trackers = kept.sizes.trackers;
-      unordered = ap length is ∙ length-set p.unordered q.source (with_last (unordered_at p.unordered q.source) q) ∙ kept.sizes.unordered;
-      made = ap length counts ∙ length-set p.made q.source (slice_index p.made q.source + 1) ∙ kept.sizes.made;
-      delivered = kept.sizes.delivered;
-    };
+    sizes = sized_lists (record p { routers = routers }) p.trackers p.ordered unordered made p.delivered (sized_routers p routers grid vcs kept.sizes) kept.sizes.within
+        refl (ap length is ∙ length-set p.unordered q.source (with_last (unordered_at p.unordered q.source) q))
+        (ap length counts ∙ length-set p.made q.source (slice_index p.made q.source + 1)) refl;
     holds = subst (λ (lists : List (Buffer Request)). OrderedNetworkHolds p.chip (network_of (record p { routers = routers; unordered = lists; made = made }))) (sym is) holds;
     trackers = kept.trackers;
     capacities = λ t within.

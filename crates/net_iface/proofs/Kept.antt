@@ -25,7 +25,7 @@ use Rattle.net_iface.proofs.Accounts.{accounted}
 use Rattle.net_iface.proofs.Expected.{interface_at}
 
 -- other routers of the same sizes
-sized_routers : (p : Parts) (routers : RequestNetwork) → routers.grid ≡ p.routers.grid → routers.vcs ≡ p.routers.vcs → AreSized p → AreSized (record p { routers = routers })
+pub sized_routers : (p : Parts) (routers : RequestNetwork) → routers.grid ≡ p.routers.grid → routers.vcs ≡ p.routers.vcs → AreSized p → AreSized (record p { routers = routers })
 sized_routers p routers grid vcs sizes = record {
   some = sizes.some;
   few = sizes.few;
@@ -60,6 +60,28 @@ sized_windows p windows same taken sizes = record {
   unordered = sizes.unordered;
   made = sizes.made;
   delivered = sizes.delivered;
+}
+
+-- other lists with a place for each tile, and an order within the room
+pub sized_lists : (p : Parts) (trackers : List TrackerState) (ordered : List Request) (unordered : List (Buffer Request)) (made delivered : List ℕ) → AreSized p
+    → length ordered ≤ p.room → length trackers ≡ length p.trackers → length unordered ≡ length p.unordered
+    → length made ≡ length p.made → length delivered ≡ length p.delivered
+    → AreSized (record p { trackers = trackers; ordered = ordered; unordered = unordered; made = made; delivered = delivered })
+sized_lists p trackers ordered unordered made delivered sizes room tracked unordered_is made_is delivered_is = record {
+  some = sizes.some;
+  few = sizes.few;
+  grid = sizes.grid;
+  vcs = sizes.vcs;
+  windows_grid = sizes.windows_grid;
+  ticks = sizes.ticks;
+  windows_room = sizes.windows_room;
+  small = sizes.small;
+  within = room;
+  taken = sizes.taken;
+  trackers = tracked ∙ sizes.trackers;
+  unordered = unordered_is ∙ sizes.unordered;
+  made = made_is ∙ sizes.made;
+  delivered = delivered_is ∙ sizes.delivered;
 }
 
 -- a tracker follows windows in which as much is closed and taken
@@ -115,22 +137,9 @@ AreKept-close p windows ordered unordered same closes room lose is holds kept =
     let sized = sized_windows p windows same (ap (λ (v : Windows). length v.taken) closes) kept.sizes in
     let more = filter_map (lowest_of p.unordered) (expansion (tile_count p.chip) (length w.closed) w.posts) in
     record {
-      sizes = record {
-        some = sized.some;
-        few = sized.few;
-        grid = sized.grid;
-        vcs = sized.vcs;
-        windows_grid = sized.windows_grid;
-        ticks = sized.ticks;
-        windows_room = sized.windows_room;
-        small = sized.small;
-        within = omega (arith, room, ap length is, length-append p.ordered more, expansion_le (tile_count p.chip) (length w.closed) w.posts (lowest_of p.unordered) kept.sizes.some);
-        taken = sized.taken;
-        trackers = sized.trackers;
-        unordered = lose.count ∙ sized.unordered;
-        made = sized.made;
-        delivered = sized.delivered;
-      };
+      sizes = sized_lists (record p { windows = windows }) p.trackers ordered unordered p.made p.delivered sized
+          (omega (arith, room, ap length is, length-append p.ordered more, expansion_le (tile_count p.chip) (length w.closed) w.posts (lowest_of p.unordered) kept.sizes.some))
+          refl lose.count refl refl;
       holds = holds;
       trackers = λ u tracker there.
           let inside : u < tile_count p.chip = omega (arith, slice_get_within p.trackers u tracker there, kept.sizes.trackers) in

@@ -20,7 +20,7 @@ use Rattle.net_iface.specs.Trackers.{MayTakeIn, with_window}
 use Rattle.net_iface.proofs.Orders.{each_window}
 use Rattle.window_core.specs.Windows.{WindowsState, SameSizes}
 use Rattle.net_iface.proofs.Accounts.{accounted}
-use Rattle.net_iface.proofs.Kept.{sized_windows}
+use Rattle.net_iface.proofs.Kept.{sized_windows, sized_lists}
 use Rattle.net_iface.proofs.Places.{same_some, item_at, slice_get-set_same, slice_get-set_other}
 use Rattle.net_iface.proofs.Room.{undelivered_few, windows_few}
 
@@ -106,22 +106,8 @@ module _ (p : Parts) (t vector : ℕ) (new : Windows) (kept : AreKept p) (one : 
       let step : record p.windows.windows { taken = set p.windows.windows.taken t (one.count + 1) } ≡ windows.windows = one.is ∙ sym is in
       let sized = sized_windows p windows same (ap (λ (v : Windows). length v.taken) (sym step) ∙ length-set p.windows.windows.taken t (one.count + 1)) kept.sizes in
       record {
-        sizes = record {
-          some = sized.some;
-          few = sized.few;
-          grid = sized.grid;
-          vcs = sized.vcs;
-          windows_grid = sized.windows_grid;
-          ticks = sized.ticks;
-          windows_room = sized.windows_room;
-          small = sized.small;
-          within = sized.within;
-          taken = sized.taken;
-          trackers = ap length trackers_are ∙ length-set p.trackers t (with_window found.item vector) ∙ sized.trackers;
-          unordered = sized.unordered;
-          made = sized.made;
-          delivered = sized.delivered;
-        };
+        sizes = sized_lists (record p { windows = windows }) trackers p.ordered p.unordered p.made p.delivered sized sized.within
+            (ap length trackers_are ∙ length-set p.trackers t (with_window found.item vector)) refl refl refl;
         holds = holds;
         trackers = λ u tracker there. subst (λ (v : Windows). IsFollowing p.chip v p.delivered u tracker) (sym is) (
             elim (cases_eq u t) [

@@ -3,3 +3,4 @@ pub mod Sound
 pub mod Empty
 pub mod Accounts
 pub mod MessagesKept
+pub mod ChannelsKept

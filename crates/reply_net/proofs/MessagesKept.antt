@@ -19,7 +19,7 @@ use Rattle.chip_model.specs.Replies.{no_replies, after_send, next_channel, after
 use Rattle.chip_model.specs.NetworkShape.{MessageFits}
 use Rattle.chip_model.proofs.ChannelPuts.{HasChannels-put, HasChannels-empty, every-put}
 use Rattle.reply_net.specs.MessagesHold.{MessagesHold, MessageCame}
-use Rattle.reply_net.proofs.Steps.{IsNext, next_found, elsewhere, free_found, free_place}
+use Rattle.reply_net.proofs.Steps.{landed, IsNext, next_found, elsewhere, free_found, free_place}
 use Rattle.reply_net.proofs.Sound.{each-put, each-take, no_message, free_beside, stands_next}
 use Rattle.reply_net.proofs.Accounts.{Nearer, received_is}
 
@@ -67,8 +67,8 @@ pub messages_hopped : Nearer → StandsOn → (chip : Chip) (old new : Network M
     → after_data_hop chip.grid old r port slot ≡ Some new → MessagesHold chip new
 unfolding after_data_hop
 messages_hopped nearer stands_on chip old new r port slot holds is =
-    option_and_then_some (λ msg. next_channel chip.grid old r msg >>= (λ next. Some (landed msg next))) (at old r p slot) new is (λ msg stands rest.
-    option_and_then_some (λ next. Some (landed msg next)) (next_channel chip.grid old r msg) new rest (λ next found done.
+    option_and_then_some (λ msg. next_channel chip.grid old r msg >>= (λ next. Some (landed old r p slot msg next))) (at old r p slot) new is (λ msg stands rest.
+    option_and_then_some (λ next. Some (landed old r p slot msg next)) (next_channel chip.grid old r msg) new rest (λ next found done.
     subst (MessagesHold chip) (same_Some _ new done) (goes_on msg next stands (next_found chip.grid old r msg next found))))
   where
     p : ℕ
@@ -77,10 +77,7 @@ messages_hopped nearer stands_on chip old new r port slot holds is =
     mid : Network Msg
     mid = put old r p slot None
 
-    landed : Msg → Channel → Network Msg
-    landed msg next = put mid next.router (port_number next.port) next.slot (Some msg)
-
-    goes_on : (msg : Msg) (next : Channel) → at old r p slot ≡ Some msg → IsNext chip.grid old r msg next → MessagesHold chip (landed msg next)
+    goes_on : (msg : Msg) (next : Channel) → at old r p slot ≡ Some msg → IsNext chip.grid old r msg next → MessagesHold chip (landed old r p slot msg next)
     goes_on msg next stands found =
         let fits = holds.messages r p slot msg stands in
         let some = has_tiles chip.grid msg.to fits.to in

@@ -66,6 +66,10 @@ pub record IsNext (g : Grid) (net : Network Msg) (r : ℕ) (msg : Msg) (next : C
   pub port_is : next.port ≡ opposite (route g r msg.to)
   pub lowest : lowest_free (channels_of net next.router) (port_number next.port) ≡ Some next.slot
 
+-- the network in which the message has left its channel and stands in the next one
+abbrev pub landed : Network Msg → ℕ → ℕ → ℕ → Msg → Channel → Network Msg
+landed old r p slot msg next = put (put old r p slot None) next.router (port_number next.port) next.slot (Some msg)
+
 pub next_found : (g : Grid) (net : Network Msg) (r : ℕ) (msg : Msg) (next : Channel) → next_channel g net r msg ≡ Some next → IsNext g net r msg next
 unfolding next_channel
 next_found g net r msg next is =

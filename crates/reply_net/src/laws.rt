@@ -1,11 +1,11 @@
-ghost use Rattle.std.specs.Prelude.{◌≡◌, ◌+◌, ℕ, List, Some};
+ghost use Rattle.std.specs.Prelude.{◌≡◌, ◌+◌, ℕ, List, Some, false};
 ghost use Rattle.mesh_gen.specs.declared.msg.Msg.{Msg};
 ghost use Rattle.mesh_gen.specs.declared.port.Port.{Port};
 ghost use Rattle.mesh_gen.specs.Grid.{Grid};
 ghost use Rattle.mesh_gen.specs.Routes.{HasTiles};
 ghost use Rattle.vc_bank.specs.Places.{Network};
 ghost use Rattle.chip_model.specs.Chip.{Chip};
-ghost use Rattle.chip_model.specs.NetworkShape.{MessageFits};
+ghost use Rattle.chip_model.specs.NetworkShape.{HasChannels, MessageFits};
 ghost use Rattle.chip_model.specs.Replies.{no_replies, after_send, after_data_hop, after_data_eject};
 ghost use Rattle.reply_net.specs.MessagesHold.{MessagesHold, MessageCame};
 ghost use Rattle.reply_net.specs.ReplyNetwork.{total};
@@ -45,6 +45,21 @@ pub fn message_laws()
 {
     route_laws();
 }
+
+/// The laws of the channels of replies: no step gives a router more or fewer of them. At run time it does nothing.
+pub fn channel_laws()
+    ensures sent { (g : Grid) (data_vcs : ℕ) (old new : Network Msg) (t : ℕ) (msg : Msg)
+        → HasChannels g data_vcs false old → after_send old t msg ≡ Some new
+        → HasChannels g data_vcs false new }
+    ensures hopped { (g : Grid) (data_vcs : ℕ) (old new : Network Msg) (r : ℕ) (port : Port)
+        (slot : ℕ)
+        → HasChannels g data_vcs false old → after_data_hop g old r port slot ≡ Some new
+        → HasChannels g data_vcs false new }
+    ensures came { (g : Grid) (data_vcs : ℕ) (old new : Network Msg) (t : ℕ) (port : Port)
+        (slot : ℕ) (msg : Msg)
+        → HasChannels g data_vcs false old → after_data_eject old t port slot ≡ Some (msg, new)
+        → HasChannels g data_vcs false new }
+{}
 
 /// The laws of sums over the messages in all channels, whatever each weighs. At run time it does nothing.
 pub fn weight_laws()

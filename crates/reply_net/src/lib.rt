@@ -6,5 +6,5 @@ mod banks;
 mod laws;
 mod replies;
 
-pub use laws::{message_laws, reply_laws, weight_laws};
+pub use laws::{channel_laws, message_laws, reply_laws, weight_laws};
 pub use replies::Replies;

@@ -17,6 +17,7 @@ use Rattle.chip_model.specs.Misses.{Demand, WriteBack, Misses, is_written_back, 
 use Rattle.chip_model.specs.Snoop.{CacheSide, with_demand, with_back, with_cache, written_by}
 use Rattle.chip_model.specs.Node.{Node, Performed, has_entry, holds_back, with_side, load_hit, demand_started, back_started, victim_evicted, missed, unless_written_back, store_to, accessed_with, node_after_access}
 use Rattle.chip_model.specs.NodeShape.{IsCache, is_modified_state, is_modified, DemandFits, SideFits}
+use Rattle.snoop_core.proofs.DemandStages.{staged}
 use Rattle.snoop_core.proofs.Options.{none_some, when_some}
 use Rattle.snoop_core.proofs.CacheMaps.{DropsShared, drops_shared, PutsBack, puts_back, lookup-line, lookup-without_line, lookup-installed, fits_held, fits_room, IsCache-without_line, IsCache-installed}
 use Rattle.snoop_core.proofs.Sending.{sent_forms}
@@ -272,20 +273,8 @@ SideFits-node_after_access access node performed done is =
 -- ---- the request is sent
 sent_fits : (chip : Chip) (cache : Cache) (demand : Demand) → DemandFits chip cache demand
     → DemandFits chip cache (record demand { sent = true })
-sent_fits chip cache demand is = record {
-  asks = is.asks;
-  line = is.line;
-  room = is.room;
-  unmodified = is.unmodified;
-  absent = is.absent;
-  unowned = is.unowned;
-  unsent = λ unsent. cc;
-  waits = is.waits;
-  unordered = is.unordered;
-  reads = is.reads;
-  writes = is.writes;
-  gone = is.gone;
-}
+sent_fits chip cache demand is =
+    staged chip cache demand true demand.once demand.ordered demand.early demand.list is is.unowned (λ unsent. cc) is.waits is.unordered is.reads is.writes is.gone
 
 abbrev pub with_misses : Misses → CacheSide → CacheSide
 with_misses misses side = record side { misses = misses }

@@ -12,6 +12,7 @@ use Rattle.chip_model.specs.Misses.{Demand, is_getm, ends_in_getm}
 use Rattle.chip_model.specs.Snoop.{CacheSide, with_demand, with_cache, line_gone, written_by, kept_after_store, kept_after_load, completed_load, completed_store, completed, data_at, data_for, after_data}
 use Rattle.chip_model.specs.NodeShape.{DemandFits, SideFits}
 use Rattle.snoop_core.specs.Requests.{DataFits}
+use Rattle.snoop_core.proofs.DemandStages.{staged}
 use Rattle.snoop_core.proofs.Sides.{SideFits-without_line, SideFits-demand, SideFits-served, SideFits-installed}
 
 -- ---- what a completion leaves of the cache
@@ -66,20 +67,9 @@ SideFits-completed chip side demand place words stands is = completed_forms chip
 -- ---- words come
 early_fits : (chip : Chip) (cache : Cache) (demand : Demand) (words : List ℕ) → demand.sent ≡ true → demand.ordered ≡ None
     → DemandFits chip cache demand → DemandFits chip cache (record demand { early = Some words })
-early_fits chip cache demand words sent none is = record {
-  asks = is.asks;
-  line = is.line;
-  room = is.room;
-  unmodified = is.unmodified;
-  absent = is.absent;
-  unowned = is.unowned;
-  unsent = λ unsent. grind (arith, sent, unsent);
-  waits = λ ordered. grind (arith, none, ordered);
-  unordered = is.unordered;
-  reads = is.reads;
-  writes = is.writes;
-  gone = is.gone;
-}
+early_fits chip cache demand words sent none is =
+    staged chip cache demand demand.sent demand.once demand.ordered (Some words) demand.list is is.unowned
+    (λ unsent. grind (arith, sent, unsent)) (λ ordered. grind (arith, none, ordered)) is.unordered is.reads is.writes is.gone
 
 SideFits-data_at : (chip : Chip) (side : CacheSide) (words : List ℕ) (demand : Demand) (place : Option ℕ) → side.misses.demand ≡ Some demand
     → demand.sent ≡ true → demand.ordered ≡ place

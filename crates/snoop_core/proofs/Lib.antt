@@ -4,6 +4,7 @@ pub mod Accessing
 pub mod CacheMaps
 pub mod Completing
 pub mod Completions
+pub mod DemandStages
 pub mod Sending
 pub mod HoldingCases
 pub mod LinesKept

@@ -12,6 +12,7 @@ use Rattle.chip_model.specs.Misses.{Demand, WriteBack, is_getm, ends_in_getm}
 use Rattle.chip_model.specs.Snoop.{CacheSide, Outcome, Holding, quiet, supplies, line_gone, made_owned, made_stale, deferred_to_demand, serves_once, snooped_with, holding, live_for, ordered_for}
 use Rattle.chip_model.specs.Ownership.{is_owned_copy, is_live_back, is_open_write}
 use Rattle.chip_model.specs.NodeShape.{DemandFits, SideFits}
+use Rattle.snoop_core.proofs.DemandStages.{staged}
 use Rattle.snoop_core.proofs.Sides.{SideFits-without_line, SideFits-owned, SideFits-demand, SideFits-stale}
 use Rattle.snoop_core.proofs.CacheMaps.{lookup-without_line}
 use Rattle.snoop_core.proofs.HoldingCases.{holding_forms, live_is, ordered_is, not_live, not_open_none, not_open_ended}
@@ -126,37 +127,15 @@ ends_in_getm-append (first ∷ next ∷ rest) last = ends_in_getm-append (next �
 listed_fits : (chip : Chip) (cache : Cache) (demand : Demand) (waiting : Waiting) → is_some demand.ordered ≡ true
     → is_getm demand.kind ≡ true → (is_getm waiting.kind ≡ true → lookup chip cache demand.line ≡ None)
     → DemandFits chip cache demand → DemandFits chip cache (record demand { list = demand.list ++ waiting ∷ [] })
-listed_fits chip cache demand waiting ordered writes left is = record {
-  asks = is.asks;
-  line = is.line;
-  room = is.room;
-  unmodified = is.unmodified;
-  absent = is.absent;
-  unowned = is.unowned;
-  unsent = is.unsent;
-  waits = is.waits;
-  unordered = λ none. grind (arith, ordered, none);
-  reads = λ read. grind (arith, writes, read);
-  writes = is.writes;
-  gone = λ ends. left (sym (ends_in_getm-append demand.list waiting) ∙ ends);
-}
+listed_fits chip cache demand waiting ordered writes left is =
+    staged chip cache demand demand.sent demand.once demand.ordered demand.early (demand.list ++ waiting ∷ []) is is.unowned is.unsent is.waits
+    (λ none. grind (arith, ordered, none)) (λ read. grind (arith, writes, read)) is.writes (λ ends. left (sym (ends_in_getm-append demand.list waiting) ∙ ends))
 
 once_fits : (chip : Chip) (cache : Cache) (demand : Demand) → is_some demand.ordered ≡ true → is_getm demand.kind ≡ false
     → DemandFits chip cache demand → DemandFits chip cache (record demand { once = true })
-once_fits chip cache demand ordered reads is = record {
-  asks = is.asks;
-  line = is.line;
-  room = is.room;
-  unmodified = is.unmodified;
-  absent = is.absent;
-  unowned = is.unowned;
-  unsent = is.unsent;
-  waits = is.waits;
-  unordered = λ none. grind (arith, ordered, none);
-  reads = is.reads;
-  writes = λ write. grind (arith, reads, write);
-  gone = is.gone;
-}
+once_fits chip cache demand ordered reads is =
+    staged chip cache demand demand.sent true demand.ordered demand.early demand.list is is.unowned is.unsent is.waits
+    (λ none. grind (arith, ordered, none)) is.reads (λ write. grind (arith, reads, write)) is.gone
 
 SideFits-listed : (chip : Chip) (side : CacheSide) (q : Request) (demand : Demand) → side.misses.demand ≡ Some demand
     → is_some demand.ordered ≡ true → is_getm demand.kind ≡ true

@@ -41,7 +41,7 @@ use Rattle.chip_laws.proofs.SupplyBounds.{one_open}
 use Rattle.chip_laws.proofs.SupplyFrames.{count_here, count_there}
 use Rattle.chip_laws.proofs.SupplyAccounts.{accessed_supply}
 use Rattle.chip_laws.proofs.SupplyDeliveries.{delivered_account}
-use Rattle.chip_laws.proofs.SuppliedComes.{OneOpen}
+use Rattle.chip_laws.proofs.SuppliedComes.{OneOpen, same_delivered}
 use Rattle.chip_laws.proofs.UnitFrames.{changed_unit, other_unit, each_unit}
 use Rattle.chip_laws.proofs.WholeSteps.{delivers_next}
 use Rattle.supply_laws.proofs.OwnerGets.{is_owner}
@@ -165,13 +165,6 @@ sent_count node = refl
 delivered_count : (q : Request) (node : Node) → (node_after_request q node).0.delivered ≡ node.delivered + 1
 unfolding node_after_request
 delivered_count q node = refl
-
-same_delivered : (msg : Msg) (node : Node) → (node_after_message msg node).0.delivered ≡ node.delivered
-unfolding node_after_message
-same_delivered msg node = by msg.kind where
-  by : (kind : MsgKind) → (arrived_as msg node kind).0.delivered ≡ node.delivered
-  by Data = refl
-  by Back = refl
 
 same_tile : (msg : Msg) (node : Node) → (node_after_message msg node).0.tile ≡ node.tile
 unfolding node_after_message

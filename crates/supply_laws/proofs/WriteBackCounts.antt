@@ -12,7 +12,7 @@ use Rattle.chip_model.specs.ChipState.{ChipState}
 use Rattle.chip_model.specs.Suppliers.{delivered_at, writes_back, is_undelivered_at, is_undelivered, write_backs_to_come}
 use Rattle.net_iface.proofs.Named.{slice_get-append_left}
 use Rattle.chip_laws.proofs.SupplyCounts.{count_by-cons, count_by-append, count_by-same, count_by-one, upwards-append}
-use Rattle.chip_laws.proofs.SupplyToCome.{Delivers}
+use Rattle.chip_laws.proofs.SupplyToCome.{Delivers, elsewhere, at_place}
 use Rattle.supply_laws.proofs.OwnerGets.{back_of}
 use Rattle.supply_laws.proofs.WriteBackPlaces.{writes_back_grown}
 
@@ -62,41 +62,6 @@ to_write_same count new line ordered same =
     by k (Some q) = ap (λ (n : ℕ). writes_back line ordered k && nat_le n k) (same q.source)
 
 -- ---- a tile delivers the next request
-le_next : (n k : ℕ) → k ≢ n → nat_le (n + 1) k ≡ nat_le n k
-le_next n k away = elim (cases_eq k n) [ inl same ↦ absurd (away same) | inr other ↦ grind (arith, nat_tests, other) ]
-
-elsewhere : (count new : ℕ → ℕ) (u v k : ℕ) → Delivers count new u → k ≢ count u → nat_le (new v) k ≡ nat_le (count v) k
-elsewhere count new u v k delivers away = elim (cases_eq v u) [
-  | inl same ↦ ap (λ w. nat_le (new w) k) same ∙ ap (λ n. nat_le n k) delivers.here ∙ le_next (count u) k away ∙ ap (λ w. nat_le (count w) k) (sym same)
-  | inr other ↦ ap (λ n. nat_le n k) (delivers.others v other)
-]
-
-and_true : (b : Bool) → count_if (b && true) ≡ count_if b
-and_true true = refl
-and_true false = refl
-
-and_false : (b : Bool) → count_if (b && false) ≡ 0
-and_false true = refl
-and_false false = refl
-
-at_place : (count new : ℕ → ℕ) (u v : ℕ) (writes : Bool) → Delivers count new u
-    → count_if (writes && nat_le (new v) (count u)) + cond (v == u) (count_if writes) 0 ≡ count_if (writes && nat_le (count v) (count u))
-at_place count new u v writes delivers = elim (cases_eq v u) [
-  | inl same ↦ (
-      let here_le : nat_le (count u) (count u) ≡ true = le-leb (count u) (count u) (omega arith) in
-      let not_le : nat_le (count u + 1) (count u) ≡ false = grind (arith, nat_tests) in
-      let was : count_if (writes && nat_le (count v) (count u)) ≡ count_if writes =
-      ap (λ w. count_if (writes && nat_le (count w) (count u))) same ∙ ap (λ b. count_if (writes && b)) here_le ∙ and_true writes in
-      let is : count_if (writes && nat_le (new v) (count u)) ≡ 0 =
-      ap (λ w. count_if (writes && nat_le (new w) (count u))) same ∙ ap (λ n. count_if (writes && nat_le n (count u))) delivers.here ∙ ap (λ b. count_if (writes && b)) not_le ∙ and_false writes in
-      let here : cond (v == u) (count_if writes) 0 ≡ count_if writes = ap (λ b. cond b (count_if writes) 0) (eq-eqb v u same) in
-      omega (arith, was, is, here))
-  | inr other ↦ (
-      let is : count_if (writes && nat_le (new v) (count u)) ≡ count_if (writes && nat_le (count v) (count u)) = ap (λ n. count_if (writes && nat_le n (count u))) (delivers.others v other) in
-      let away : cond (v == u) (count_if writes) 0 ≡ 0 = ap (λ b. cond b (count_if writes) 0) (ne_eqb v u other) in
-      omega (arith, is, away))
-]
-
 pub to_write_delivered : (count new : ℕ → ℕ) (line : ℕ) (ordered : List Request) (u : ℕ) (q : Request) → Delivers count new u → slice_get ordered (count u) ≡ Some q
     → to_write_back new line ordered + cond (q.source == u) (count_if (writes_back line ordered (count u))) 0 ≡ to_write_back count line ordered
 to_write_delivered count new line ordered u q delivers next =

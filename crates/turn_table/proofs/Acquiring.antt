@@ -1,5 +1,5 @@
 -- The exchange that may get the turn keeps the rule, and a seat that gets it finds a value that fits.
-use Rattle.std.proofs.Common.{◌≡◌, ℕ, ◌+◌, ◌%◌, ◌≤◌, List, [], ◌∷◌, ◌++◌, length, get_or, sym, refl, ap, ◌∙◌, subst, inl, inr, arith, eqb, eq-eqb, ne_eqb, false}
+use Rattle.std.proofs.Common.{◌≡◌, ℕ, ◌+◌, ◌%◌, ◌≤◌, List, [], ◌∷◌, ◌++◌, length, get_or, sym, refl, ap, ◌∙◌, subst, inl, inr, arith, eqb, eq-eqb, ne_eqb, true, false, Some}
 use Rattle.std.proofs.lemmas.List.{append-nil}
 use mathlib.Core.Logic.{dite}
 use mathlib.Core.Option.{some, none}
@@ -12,7 +12,7 @@ use Rattle.turn_table.specs.Notes.{note_after_miss, note_with_turn}
 use Rattle.turn_table.specs.Rule.{total, total_of_views, bit, pairs_naming, signs_of_use}
 use Rattle.turn_table.specs.Steps.{FitsNote, GetsTurn, Acquires}
 use Rattle.turn_table.proofs.Totals.{total_below, total_le, total-ones, total-enumerate_from, total_of_views_at}
-use Rattle.turn_table.proofs.Changes.{bit_le, same_note, Table, Rule, Right, AllRight, rule_after}
+use Rattle.turn_table.proofs.Changes.{notes_seen, bit_le, same_note, Table, Rule, Right, AllRight, rule_after}
 
 module _ {V : Type 0} (entries : V → List ℕ) (names : ℕ → ℕ) (opening : List ℕ) (seats : ℕ) where
   pub total_le_right : (f g : Note → ℕ) (made : List ℕ) → ((note : Note) → Right entries names opening seats made note → f note ≤ g note)
@@ -83,15 +83,8 @@ module _ {V : Type 0} (entries : V → List ℕ) (names : ℕ → ℕ) (opening 
         keeps,
         tt,
         subst (λ b. Rule entries names opening seats (stepped state 0 (either b new found) id carried (after ∷ []) keeps)) (sym (ne_eqb found old miss))
-            (rule_after entries names opening seats state rule id note after carried keeps found rule.made rule.held rule.value at record {
-              number = refl;
-              word_is = rule.word;
-              holders = refl;
-              one_holder = rule.one_holder;
-              pairs = λ weight. refl;
-              right = record { opening_is = right.opening_is; seats_is = right.seats_is; number = right.number; trail = right.trail; holder = right.holder; one_own = right.one_own; own_named = right.own_named };
-              still_served = omega arith;
-              served = λ _. let mine = total_of_views_at signs_of_use state.views id note at in inl (omega arith);
-            } rule.home (λ j view _ there. rule.notes j view there)),
+            (rule_after entries names opening seats state rule id note after carried keeps found rule.made rule.held rule.value at
+            (notes_seen entries names opening seats state rule note note.loads note.seen (Some found) true right
+            (λ _. let mine = total_of_views_at signs_of_use state.views id note at in inl (omega arith))) rule.home (λ j view _ there. rule.notes j view there)),
         λ told same. ((λ hit. absurd (miss hit)), λ _. ap (λ (n : Note). (note_after_miss n found ∷ [], carried)) (same_note note told same)),
       ))

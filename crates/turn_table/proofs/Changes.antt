@@ -1,5 +1,5 @@
 -- A step in which one seat gets a new note: what the step owes, and that the rule then holds again.
-use Rattle.std.proofs.Common.{◌≡◌, ℕ, ◌+◌, ◌*◌, ◌<◌, ◌≤◌, ◌≢◌, ◌⊎◌, List, [], ◌∷◌, ◌++◌, length, get_or, set, sym, ap, ◌∙◌, subst, ⊎_elim, arith, eqb, length-set, get_or-set_same, Bool, true, false}
+use Rattle.std.proofs.Common.{◌≡◌, ℕ, ◌+◌, ◌*◌, ◌<◌, ◌≤◌, ◌≢◌, ◌⊎◌, List, [], ◌∷◌, ◌++◌, length, get_or, set, sym, ap, ◌∙◌, subst, ⊎_elim, arith, eqb, length-set, get_or-set_same, Bool, true, false, Option, refl}
 use Rattle.std.specs.List.{enumerate_from}
 use mathlib.Core.Logic.{dite}
 use mathlib.Core.Option.{some}
@@ -61,6 +61,22 @@ module _ {V : Type 0} (entries : V → List ℕ) (names : ℕ → ℕ) (opening 
     pub right : Right made new
     pub still_served : bit old.served ≤ bit new.served
     pub served : 0 < word + signs_of_use new → (0 < get_or state.words 0 0 + total_of_views signs_of_use state.views) ⊎ (bit new.served ≡ 1)
+
+  -- what a step owes that leaves the word and only notes what was seen or found
+  pub notes_seen : (state : Table) (rule : Rule state) (note : Note) (loads seen : ℕ) (found : Option ℕ) (refused : Bool) → Right rule.made note
+      → (0 < get_or state.words 0 0 + signs_of_use (record note { loads = loads; seen = seen; found = found; refused = refused })
+      → (0 < get_or state.words 0 0 + total_of_views signs_of_use state.views) ⊎ (bit note.served ≡ 1))
+      → Change state rule note (record note { loads = loads; seen = seen; found = found; refused = refused }) (get_or state.words 0 0) rule.made rule.held
+  notes_seen state rule note loads seen found refused right served = record {
+    number = refl;
+    word_is = rule.word;
+    holders = refl;
+    one_holder = rule.one_holder;
+    pairs = λ weight. refl;
+    right = record { opening_is = right.opening_is; seats_is = right.seats_is; number = right.number; trail = right.trail; holder = right.holder; one_own = right.one_own; own_named = right.own_named };
+    still_served = omega arith;
+    served = served;
+  }
 
   at_least : (views : List (List Note)) (id : ℕ) (old new : Note) → get_elem? views id ≡ some (old ∷ []) → bit new.served ≤ total_of_views (λ (note : Note). bit note.served) (set views id (new ∷ []))
   at_least views id old new at =

@@ -1,5 +1,5 @@
 -- A load of the word keeps the rule.
-use Rattle.std.proofs.Common.{◌≡◌, ℕ, ◌%◌, List, [], ◌∷◌, get_or, refl, ap, inl, arith, eqb, Bool, false, ◌||◌}
+use Rattle.std.proofs.Common.{◌≡◌, ℕ, ◌+◌, ◌%◌, ◌==◌, List, [], ◌∷◌, get_or, ap, inl, arith, eqb, Bool, false, ◌||◌, None}
 use mathlib.Core.Logic.{dite}
 use mathlib.Core.Option.{none}
 use native.Mathlib.Decide.{dec_le}
@@ -9,7 +9,7 @@ use Rattle.turn_table.specs.Notes.{note_after_load}
 use Rattle.turn_table.specs.Rule.{bit, signs_of_use}
 use Rattle.turn_table.specs.Steps.{Loads}
 use Rattle.turn_table.proofs.Totals.{total_of_views_at}
-use Rattle.turn_table.proofs.Changes.{same_note, Rule, rule_after}
+use Rattle.turn_table.proofs.Changes.{notes_seen, same_note, Rule, rule_after}
 
 -- a load of 0 refuses nobody
 refused_after_zero : (seen : ℕ) (refused : Bool) → seen ≡ 0 → (eqb (seen % 2) 1 || refused) ≡ refused
@@ -23,16 +23,10 @@ module _ {V : Type 0} (entries : V → List ℕ) (names : ℕ → ℕ) (opening 
         new ∷ [],
         keeps,
         tt,
-        rule_after entries names opening seats state rule id note new carried keeps seen rule.made rule.held rule.value at record {
-          number = refl;
-          word_is = rule.word;
-          holders = refl;
-          one_holder = rule.one_holder;
-          pairs = λ weight. refl;
-          right = record { opening_is = right.opening_is; seats_is = right.seats_is; number = right.number; trail = right.trail; holder = right.holder; one_own = right.one_own; own_named = right.own_named };
-          still_served = omega arith;
-          served = λ due. dite (dec_le 1 seen) (λ some_seen. inl (omega arith))
-              (λ none_seen. let same : bit new.refused ≡ bit note.refused = ap bit (refused_after_zero seen note.refused (omega arith)) in let mine = total_of_views_at signs_of_use state.views id note at in inl (omega arith));
-        } rule.home (λ j view _ there. rule.notes j view there),
+        rule_after entries names opening seats state rule id note new carried keeps seen rule.made rule.held rule.value at
+        (notes_seen entries names opening seats state rule note (note.loads + 1) seen None ((seen % 2 == 1) || note.refused) right
+        (λ due. dite (dec_le 1 seen) (λ some_seen. inl (omega arith))
+            (λ none_seen. let same : bit new.refused ≡ bit note.refused = ap bit (refused_after_zero seen note.refused (omega arith)) in let mine = total_of_views_at signs_of_use state.views id note at in inl (omega arith))))
+        rule.home (λ j view _ there. rule.notes j view there),
         λ told same. ap (λ (n : Note). (note_after_load n seen ∷ [], carried)) (same_note note told same),
       )

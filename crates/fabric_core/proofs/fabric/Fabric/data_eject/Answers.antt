@@ -3,7 +3,6 @@ use Rattle.fabric_core.specs.Fabric.{fabric_after_data_eject}
 use Rattle.fabric_core.specs.Parts.{fabric_of_parts, LogState}
 use Rattle.net_iface.proofs.Steps.{on_err}
 use Rattle.fabric_core.proofs.Inside.{parts}
-use Rattle.fabric_core.proofs.Channels.{channels_came}
 use Rattle.fabric_core.proofs.Entries.{data_eject_valid}
 use Rattle.fabric_core.proofs.Kept.{kept-replies}
 use Rattle.fabric_core.proofs.Steps.{no_step, replies_delivery}
@@ -21,7 +20,7 @@ invariant_of-self-2 c =
     let p = parts c.self.inside in
     let room = ap (λ (log : LogState). log.room) c.note.ensures.log in
     let more = c.note.ensures.events in
-    let channels = channels_came p.network.chip.grid p.network.chip.data_vcs p.replies.messages c.eject.new.self.messages c.args.r c.args.port c.args.slot _ c.self.invariant.0.channels c.in_ok-msg.ensures.ok in
+    let channels = c.channel_laws.ensures.came p.network.chip.grid p.network.chip.data_vcs p.replies.messages c.eject.new.self.messages c.args.r c.args.port c.args.slot _ c.self.invariant.0.channels c.in_ok-msg.ensures.ok in
     (kept-replies p c.eject.new.self c.note.new.self c.self.invariant.0 c.in_ok-msg.ensures.grid room (omega (arith, more)) channels, omega (arith, room, c.self.invariant.1))
 
 pub returns-clause-ok : goal.returns-clause-ok

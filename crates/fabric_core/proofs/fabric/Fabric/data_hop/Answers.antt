@@ -3,7 +3,6 @@ use Rattle.fabric_core.specs.Fabric.{fabric_after_data_hop}
 use Rattle.fabric_core.specs.Parts.{fabric_of_parts, LogState}
 use Rattle.net_iface.proofs.Steps.{on_err}
 use Rattle.fabric_core.proofs.Inside.{parts}
-use Rattle.fabric_core.proofs.Channels.{channels_hopped}
 use Rattle.fabric_core.proofs.Entries.{data_hop_valid}
 use Rattle.fabric_core.proofs.Kept.{kept-replies}
 use Rattle.fabric_core.proofs.Steps.{no_step, replies_step}
@@ -23,7 +22,7 @@ invariant_of-self-2 c =
     let stepped = rw c.self.invariant.0.grid at c.in_ok-hop.ensures.ok in
     let room = ap (λ (log : LogState). log.room) c.note.ensures.log in
     let more = c.note.ensures.events in
-    let channels = channels_hopped p.network.chip.grid p.network.chip.data_vcs p.replies.messages c.hop.new.self.messages c.args.r c.args.port c.args.slot c.self.invariant.0.channels stepped in
+    let channels = c.channel_laws.ensures.hopped p.network.chip.grid p.network.chip.data_vcs p.replies.messages c.hop.new.self.messages c.args.r c.args.port c.args.slot c.self.invariant.0.channels stepped in
     (kept-replies p c.hop.new.self c.note.new.self c.self.invariant.0 c.in_ok-hop.ensures.grid room (omega (arith, more)) channels, omega (arith, room, c.self.invariant.1))
 
 pub returns-clause-ok : goal.returns-clause-ok

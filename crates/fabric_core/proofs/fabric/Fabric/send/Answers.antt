@@ -2,7 +2,6 @@ use Rattle.std.proofs.Common.{arith, ap}
 use Rattle.fabric_core.specs.Fabric.{fabric_after_send}
 use Rattle.fabric_core.specs.Parts.{fabric_of_parts, LogState}
 use Rattle.fabric_core.proofs.Inside.{parts}
-use Rattle.fabric_core.proofs.Channels.{channels_sent}
 use Rattle.fabric_core.proofs.Entries.{send_valid}
 use Rattle.fabric_core.proofs.Kept.{kept-replies}
 use Rattle.fabric_core.proofs.Steps.{no_step, replies_step}
@@ -20,7 +19,7 @@ invariant_of-self c =
     let p = parts c.self.inside in
     let room = ap (λ (log : LogState). log.room) c.note.ensures.log in
     let more = c.note.ensures.events in
-    let channels = channels_sent p.network.chip.grid p.network.chip.data_vcs p.replies.messages c.inject.new.self.messages c.args.r c.args.m c.self.invariant.0.channels c.in-Ok.ensures.ok in
+    let channels = c.channel_laws.ensures.sent p.network.chip.grid p.network.chip.data_vcs p.replies.messages c.inject.new.self.messages c.args.r c.args.m c.self.invariant.0.channels c.in-Ok.ensures.ok in
     (kept-replies p c.inject.new.self c.note.new.self c.self.invariant.0 c.in-Ok.ensures.grid room (omega (arith, more)) channels, omega (arith, room, c.self.invariant.1))
 
 pub returns-in-Ok-clause-ok : goal.returns-in-Ok-clause-ok
