@@ -1,0 +1,10 @@
+pub mod Sums
+pub mod RequestSteps
+pub mod WindowSteps
+pub mod MessageSteps
+pub mod AnswerCounts
+pub mod CacheRoom
+pub mod CoreToGo
+pub mod OpeningMeasure
+pub mod EventFalls
+pub mod SideSteps
