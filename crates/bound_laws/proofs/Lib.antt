@@ -8,3 +8,5 @@ pub mod CoreToGo
 pub mod OpeningMeasure
 pub mod EventFalls
 pub mod SideSteps
+pub mod HomeSteps
+pub mod UnitSteps

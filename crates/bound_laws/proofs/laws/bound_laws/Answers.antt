@@ -1,3 +1,4 @@
+use Rattle.bound_laws.proofs.UnitSteps.{message_keeps, delivery_grows}
 use Rattle.bound_laws.proofs.SideSteps.{words_come}
 use Rattle.bound_laws.proofs.EventFalls.{inject_falls}
 use Rattle.bound_laws.proofs.Sums.{sum_set}
