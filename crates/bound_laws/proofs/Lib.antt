@@ -10,3 +10,6 @@ pub mod EventFalls
 pub mod SideSteps
 pub mod HomeSteps
 pub mod UnitSteps
+pub mod CoreSteps
+pub mod UnitEvents
+pub mod FallingEvents

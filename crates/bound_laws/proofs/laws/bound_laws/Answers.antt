@@ -1,3 +1,5 @@
+use Rattle.bound_laws.proofs.FallingEvents.{event_falls, may_fall}
+use Rattle.bound_laws.proofs.CoreSteps.{stepped_falls}
 use Rattle.bound_laws.proofs.UnitSteps.{message_keeps, delivery_grows}
 use Rattle.bound_laws.proofs.SideSteps.{words_come}
 use Rattle.bound_laws.proofs.EventFalls.{inject_falls}
