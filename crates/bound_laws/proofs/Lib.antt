@@ -13,3 +13,6 @@ pub mod UnitSteps
 pub mod CoreSteps
 pub mod UnitEvents
 pub mod FallingEvents
+pub mod Journals
+pub mod BoundedRuns
+pub mod SweptStates

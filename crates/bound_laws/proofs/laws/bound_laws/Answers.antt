@@ -1,3 +1,5 @@
+use Rattle.bound_laws.proofs.BoundedRuns.{run_falls}
+use Rattle.bound_laws.proofs.SweptStates.{sweeps_end}
 use Rattle.bound_laws.proofs.FallingEvents.{event_falls, may_fall}
 use Rattle.bound_laws.proofs.CoreSteps.{stepped_falls}
 use Rattle.bound_laws.proofs.UnitSteps.{message_keeps, delivery_grows}
