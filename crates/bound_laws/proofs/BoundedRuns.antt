@@ -1,14 +1,13 @@
 -- A run has at most as many events as the measure falls by: so no more than the bound, and one that has as many leaves nothing.
-use Rattle.std.proofs.Common.{◌≡◌, ◌⊎◌, ℕ, ◌+◌, ◌<◌, ◌≤◌, true, Some, List, [], ◌∷◌, length, refl, ap, subst, inl, inr, arith}
+use Rattle.std.proofs.Common.{◌≡◌, ◌+◌, ◌≤◌, Some, List, [], ◌∷◌, length, refl, ap, subst, arith}
 use Rattle.std.proofs.lemmas.Option.{same_Some}
 use Rattle.report_text.specs.declared.event.Event.{Event}
 use Rattle.doc_text.specs.Doc.{Doc}
 use Rattle.chip_model.specs.Chip.{Chip, chip_of}
 use Rattle.chip_model.specs.Units.{in_order}
-use Rattle.chip_model.specs.ChipState.{ChipState, opening, finished}
+use Rattle.chip_model.specs.ChipState.{ChipState}
 use Rattle.chip_model.specs.Events.{step}
 use Rattle.chip_model.specs.Runs.{noted, after, run}
-use Rattle.chip_model.specs.Schedules.{bound}
 use Rattle.chip_model.specs.BehaviourLaws.{KeepsLaws}
 use Rattle.chip_model.specs.ChipInvariant.{ProtocolHolds, CoresInOrder}
 use Rattle.chip_laws.specs.DocFits.{DocFits}

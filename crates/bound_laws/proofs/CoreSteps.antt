@@ -8,7 +8,6 @@ use Rattle.core_isa.specs.declared.instr.Instr.{Instr}
 use Rattle.core_isa.specs.declared.instr.Instr.TheVariants.{Li, Add, Sub, Addi, Ld, St, Swap, Fadd, Beq, Bne, Jmp, Tid, Halt}
 use Rattle.core_isa.specs.Core.{CoreState, register, Effect, Becomes, Loads, Stores, Swaps, Adds, Halts, effect_of, instr_at}
 use Rattle.report_text.specs.Accesses.{writes}
-use Rattle.report_text.specs.declared.access.AccessKind.{AccessKind}
 use Rattle.report_text.specs.declared.access.AccessKind.TheVariants as access
 use Rattle.chip_model.specs.declared.done.Done.{Done}
 use Rattle.chip_model.specs.declared.line_state.State.{State}
@@ -20,7 +19,7 @@ use Rattle.chip_model.specs.Misses.{WriteBack, new_back, is_written_back}
 use Rattle.chip_model.specs.Snoop.{with_cache, written_by, done_by}
 use Rattle.chip_model.specs.Node.{Node, Performed, has_entry, holds_back, node_after_access, accessed_with, missed, victim_evicted, back_started, demand_started, load_hit, store_hit, store_to}
 use Rattle.chip_model.specs.NodeShape.{IsCache}
-use Rattle.chip_model.specs.Units.{UnitState, Acted, performed, access_of, access_tried, executed, core_event, in_order}
+use Rattle.chip_model.specs.Units.{UnitState, Acted, performed, access_of, executed, core_event, in_order}
 use Rattle.chip_model.specs.UnitShape.{IsAccess}
 use Rattle.chip_model.specs.Schedules.{targets}
 use Rattle.net_iface.proofs.Binds.{made}

@@ -1,5 +1,5 @@
 -- The events that leave nodes alone, and those that take a request or a message from one, lower the measure.
-use Rattle.std.proofs.Common.{◌≡◌, ◌≢◌, ℕ, ◌+◌, ◌-◌, ◌*◌, ◌<◌, ◌≤◌, Bool, true, false, cond, List, [], ◌∷◌, drop, Option, Some, None, length, set, refl, sym, ◌∙◌, ap, ⊎_elim, arith}
+use Rattle.std.proofs.Common.{◌≡◌, ◌≢◌, ℕ, ◌+◌, ◌<◌, ◌≤◌, Bool, true, false, cond, List, [], ◌∷◌, drop, Option, Some, None, length, set, refl, sym, ◌∙◌, ap, ⊎_elim, arith}
 use Rattle.std.specs.Prelude.{slice_get, is_some, not}
 use Rattle.std.specs.List.{sum_by}
 use Rattle.std.proofs.lemmas.Bool.{cases_eq}
@@ -11,7 +11,6 @@ use Rattle.mesh_gen.specs.declared.msg.Msg.{Msg}
 use Rattle.mesh_gen.specs.declared.port.Port.{Port}
 use Rattle.mesh_gen.specs.Grid.{Grid, distance}
 use Rattle.mesh_gen.specs.Routes.{HasTiles}
-use Rattle.core_isa.specs.Core.{effect_of, instr_at}
 use Rattle.mesh_gen.specs.Partial.{when}
 use Rattle.chip_model.specs.Chip.{Chip, tile_count}
 use Rattle.chip_model.specs.NetworkShape.{WindowsFit}
@@ -26,7 +25,7 @@ use Rattle.chip_model.specs.Events.{with_network, with_node, unit_at, tick, inje
 use Rattle.chip_model.specs.Suppliers.{count_of}
 use Rattle.net_iface.proofs.Binds.{bind_eq, made}
 use Rattle.net_iface.proofs.Places.{slice_get-set_same, slice_get-set_other}
-use Rattle.bound_laws.specs.Measure.{per_request, per_instruction, demand_promises, unsent_to_go, node_to_go, effect_to_go, core_to_go, unit_to_go, Lowers, Falls}
+use Rattle.bound_laws.specs.Measure.{per_request, demand_promises, unsent_to_go, node_to_go, core_to_go, unit_to_go, Lowers, Falls}
 use Rattle.bound_laws.proofs.Sums.{sum_set}
 use Rattle.bound_laws.proofs.CoreToGo.{core_side}
 use Rattle.bound_laws.proofs.WindowSteps.{take_lowers, post_lowers, tick_lowers}

@@ -1,9 +1,9 @@
 -- Every event of a chip of in-order cores lowers the measure, where what holds of reachable states holds and the programs go
 -- forward.
-use Rattle.std.proofs.Common.{◌≡◌, ℕ, ◌+◌, ◌<◌, ◌≤◌, List, [], length, Option, Some, None, refl, sym, ◌∙◌, ap, subst, arith}
+use Rattle.std.proofs.Common.{◌≡◌, ℕ, ◌<◌, ◌≤◌, List, [], length, Option, Some, None, refl, sym, ◌∙◌, ap, subst, arith}
 use Rattle.std.specs.Prelude.{slice_get}
 use Rattle.std.proofs.lemmas.List.{get_or_past}
-use Rattle.std.proofs.lemmas.Option.{slice_get_within, get_or_from_slice_get}
+use Rattle.std.proofs.lemmas.Option.{get_or_from_slice_get}
 use Rattle.core_isa.specs.declared.instr.Instr.{Instr}
 use Rattle.doc_text.specs.Doc.{Doc}
 use Rattle.mesh_gen.specs.Limits.{AreTiles}
@@ -22,7 +22,6 @@ use Rattle.chip_model.specs.ChipState.{ChipState, program_of}
 use Rattle.chip_model.specs.Events.{step}
 use Rattle.net_iface.proofs.Places.{past_end}
 use Rattle.snoop_core.specs.Requests.{OwnRequestFits}
-use Rattle.chip_laws.specs.DocFits.{DocFits}
 use Rattle.chip_laws.specs.DocLaws.{DocLaws}
 use Rattle.chip_laws.proofs.RequestsInside.{request_inside, tile_of_unit}
 use Rattle.chip_laws.proofs.OrderFrames.{HoldsAt, holds_at}
@@ -30,7 +29,6 @@ use Rattle.bound_laws.specs.Measure.{Falls}
 use Rattle.bound_laws.proofs.EventFalls.{AreOfTiles, tick_falls, post_falls, take_falls, inject_falls, hop_falls, send_falls, data_hop_falls}
 use Rattle.bound_laws.proofs.CoreSteps.{GoesForward}
 use Rattle.bound_laws.proofs.SideSteps.{IsInside}
-use Rattle.bound_laws.proofs.UnitSteps.{ComesNext}
 use Rattle.bound_laws.proofs.UnitEvents.{AreOfChip, AllMayStep, AllWait, DeliveriesComeNext, core_falls, data_eject_falls, eject_falls}
 
 -- the part of what holds in every reachable state on which it stands

@@ -1,9 +1,8 @@
 -- The journal of a state that a run has reached: each event adds itself at its end, and it leads to the state.
-use Rattle.std.proofs.Common.{◌≡◌, ◌+◌, Option, Some, None, List, [], ◌∷◌, ◌++◌, refl, sym, ◌∙◌, ap, subst}
+use Rattle.std.proofs.Common.{◌≡◌, ◌+◌, Option, Some, List, [], ◌∷◌, ◌++◌, refl, ◌∙◌, ap}
 use Rattle.std.specs.Prelude.{slice_get}
 use Rattle.std.proofs.lemmas.Option.{same_Some}
-use Rattle.mesh_gen.specs.declared.port.Port.{Port}
-use Rattle.mesh_gen.specs.Partial.{when, ◌>>=◌}
+use Rattle.mesh_gen.specs.Partial.{◌>>=◌}
 use Rattle.report_text.specs.declared.event.Event.{Event}
 use Rattle.report_text.specs.declared.event.Event.TheVariants.{Tick, Core, Inject, Post, Take, Eject, Send, Hop, DataHop, DataEject}
 use Rattle.doc_text.specs.Doc.{Doc}

@@ -16,3 +16,4 @@ pub mod FallingEvents
 pub mod Journals
 pub mod BoundedRuns
 pub mod SweptStates
+pub mod FinishedRuns

@@ -1,6 +1,6 @@
 -- What a step of the cache side does to what its unit has still to do: the words that it promised are sent, a core whose
 -- access is done goes on, and a request of another tile, or a line that is written back, adds at most one answer.
-use Rattle.std.proofs.Common.{◌≡◌, ℕ, ◌+◌, ◌-◌, ◌*◌, ◌<◌, ◌≤◌, Bool, true, false, cond, List, [], ◌∷◌, ◌++◌, Option, Some, None, refl, sym, ◌∙◌, ap, arith, eq-eqb, eqb-true, subst}
+use Rattle.std.proofs.Common.{◌≡◌, ℕ, ◌+◌, ◌-◌, ◌<◌, ◌≤◌, Bool, true, false, cond, List, [], ◌∷◌, ◌++◌, Option, Some, None, refl, sym, ◌∙◌, ap, arith, eq-eqb, eqb-true, subst}
 use Rattle.std.specs.Prelude.{is_some, ◌==◌, ◌||◌, if◌then◌else◌}
 use Rattle.std.proofs.lemmas.Bool.{cond_both}
 use Rattle.std.proofs.lemmas.Option.{same_Some}
@@ -10,7 +10,7 @@ use Rattle.mesh_gen.specs.declared.kind.Kind.TheVariants.{GetS, GetM, PutM}
 use Rattle.mesh_gen.specs.declared.msg.Msg.{Msg}
 use Rattle.mesh_gen.specs.declared.msg_kind.MsgKind.TheVariants.{Back}
 use Rattle.mesh_gen.specs.declared.request.Request.{Request}
-use Rattle.mesh_gen.specs.Grid.{Grid, distance, diameter, x_of, y_of, tiles}
+use Rattle.mesh_gen.specs.Grid.{Grid, distance, x_of, y_of}
 use Rattle.mesh_gen.specs.Routes.{HasTiles}
 use Rattle.mesh_gen.proofs.Coordinates.{x_below, y_below}
 use Rattle.core_isa.specs.Core.{effect_of, instr_at}
@@ -19,7 +19,7 @@ use Rattle.chip_model.specs.declared.line_state.State.TheVariants.{O}
 use Rattle.chip_model.specs.declared.waiting.Waiting.{Waiting}
 use Rattle.chip_model.specs.Chip.{Chip, tile_count, home}
 use Rattle.chip_model.specs.Cache.{Cache, lookup, without_line}
-use Rattle.chip_model.specs.Misses.{Demand, WriteBack, is_getm, request_for}
+use Rattle.chip_model.specs.Misses.{Demand, WriteBack, is_getm}
 use Rattle.chip_model.specs.Snoop.{CacheSide, Outcome, Holding, OwnedCopy, LiveBack, OpenWrite, OpenRead, SharedCopy, Nothing, quiet, supplies, line_gone, made_owned, stale_back, made_stale, deferred_to_demand, with_demand, with_back, with_cache, holding, snooped_with, done_by, data_to, data_to_all, written_by, completed, completed_load, completed_store, words_here, ordered_with, own_get, own_put, own_request, after_snoop, data_at, data_for, after_data}
 use Rattle.chip_model.specs.Node.{with_side}
 use Rattle.chip_model.specs.Units.{UnitState, performed, access_of}
@@ -32,7 +32,7 @@ use Rattle.mesh_gen.specs.Limits.{AreTiles}
 use Rattle.chip_laws.proofs.NodeMessages.{home_inside}
 use Rattle.bound_laws.specs.Measure.{per_answer, per_request, sends_to_go, promises_to_go, demand_promises, unsent_demand, unsent_back, unsent_to_go, next_to_go, core_to_go}
 use Rattle.bound_laws.proofs.CacheRoom.{TakesAll, takes_without, takes_installed}
-use Rattle.bound_laws.proofs.CoreToGo.{core_goes_on, core_side, IsDoneAt, access_done}
+use Rattle.bound_laws.proofs.CoreToGo.{core_goes_on, core_side, access_done}
 
 -- ---- what the words for a tile cost
 apart_below : (a b n : ℕ) → a + 1 ≤ n → b + 1 ≤ n → (a - b) + (b - a) ≤ n - 1

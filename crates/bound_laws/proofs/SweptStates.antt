@@ -1,6 +1,6 @@
 -- A sweep leads from a state that is reached to one that is, and does at least one event where the run has not ended: so a run
 -- by sweeps ends.
-use Rattle.std.proofs.Common.{◌≡◌, ◌⊎◌, ℕ, zero, suc, ◌+◌, ◌-◌, ◌<◌, ◌≤◌, Bool, true, false, cond, Option, Some, None, List, [], ◌∷◌, ◌++◌, map, take, drop, length, length-append, refl, sym, ◌∙◌, ap, subst, inl, inr, arith, eq-eqb}
+use Rattle.std.proofs.Common.{◌≡◌, ◌⊎◌, ℕ, zero, suc, ◌+◌, ◌<◌, ◌≤◌, Bool, true, false, Option, Some, None, List, [], ◌∷◌, ◌++◌, map, take, drop, length, length-append, refl, sym, ◌∙◌, ap, subst, inl, inr, arith, eq-eqb}
 use Rattle.std.specs.Prelude.{◌==◌, ◌||◌, is_some, unwrap_or, Contains, slice_index_or}
 use Rattle.std.proofs.lemmas.Bool.{cases_lt, cond_both}
 use Rattle.std.proofs.lemmas.List.{take-append-drop}
@@ -13,9 +13,10 @@ use Rattle.chip_model.specs.Chip.{Chip, chip_of}
 use Rattle.chip_model.specs.Units.{Behaviour}
 use Rattle.chip_model.specs.ChipState.{ChipState, opening, finished}
 use Rattle.chip_model.specs.Events.{step}
-use Rattle.chip_model.specs.Runs.{noted, after, enabled, run, IsReachable}
-use Rattle.chip_model.specs.Schedules.{slots, ends, tried, swept, from_offset, sweeps, AllAreMade, IsSweptTo}
-use Rattle.bound_laws.specs.Sweeps.{first_offsets, SweepsEnd}
+use Rattle.chip_model.specs.Runs.{noted, after, enabled, IsReachable}
+use Rattle.chip_model.specs.Schedules.{slots, ends, tried, swept, from_offset, sweeps, AllAreMade}
+use Rattle.progress_laws.specs.Possible.{SomeIsEnabled}
+use Rattle.bound_laws.specs.Sweeps.{SweepsEnd}
 use Rattle.bound_laws.proofs.Journals.{step_journal, reached_next, opening_reached}
 
 -- ---- one event of a sweep
@@ -122,6 +123,12 @@ from_any_offset events offset event has =
 -- in a state that is reached and has not ended some slot is possible
 abbrev pub SlotIsPossible : Behaviour → Doc → Type 0
 SlotIsPossible b d = (s : ChipState) → IsReachable b d s → finished s ≡ false → (event : Event) × (enabled b (chip_of d) s event ≡ true) × Contains (slots (chip_of d)) event
+
+-- a chip that is never stuck has one
+pub slot_possible : (b : Behaviour) (d : Doc) (s : ChipState) → finished s ≡ false → (finished s ≡ true) ⊎ SomeIsEnabled b (chip_of d) s
+    → ((event : Event) → enabled b (chip_of d) s event ≡ true → Contains (slots (chip_of d)) event) → (event : Event) × (enabled b (chip_of d) s event ≡ true) × Contains (slots (chip_of d)) event
+slot_possible b d s unfinished (inl done) slot = let both : true ≡ false = sym done ∙ unfinished in cc
+slot_possible b d s unfinished (inr some) slot = (some.event, some.possible, slot some.event some.possible)
 
 pub sweep_grows : (b : Behaviour) (d : Doc) (budget offset : ℕ) (s : ChipState) → SlotIsPossible b d → IsReachable b d s → length s.journal ≤ budget → ends budget s ≡ false
     → length s.journal < length (swept b (chip_of d) budget s (from_offset (slots (chip_of d)) offset)).journal

@@ -24,9 +24,9 @@ use Rattle.bound_laws.proofs.AnswerCounts.{is_by, answers_same, Delivers, answer
 use Rattle.bound_laws.proofs.MessageSteps.{received_lowers}
 use Rattle.bound_laws.proofs.RequestSteps.{delivery_lowers}
 use Rattle.bound_laws.proofs.EventFalls.{counts_set}
-use Rattle.bound_laws.proofs.CoreSteps.{MayStep, Steps, when_some, stepped_falls}
+use Rattle.bound_laws.proofs.CoreSteps.{MayStep, when_some, stepped_falls}
 use Rattle.bound_laws.proofs.SideSteps.{Waits}
-use Rattle.bound_laws.proofs.UnitSteps.{Keeps, message_keeps, ComesNext, GrowsByAnswer, delivery_grows}
+use Rattle.bound_laws.proofs.UnitSteps.{message_keeps, ComesNext, delivery_grows}
 
 -- each unit is of the chip
 abbrev pub AreOfChip : Chip → ChipState → Type 0

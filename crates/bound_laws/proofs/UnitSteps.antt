@@ -14,12 +14,12 @@ use Rattle.mesh_gen.specs.Grid.{distance}
 use Rattle.mesh_gen.specs.Ports.{count_if}
 use Rattle.chip_model.specs.declared.done.Done.{Done}
 use Rattle.chip_model.specs.declared.owner.Owner.{Owner}
-use Rattle.chip_model.specs.Chip.{Chip, tile_count}
+use Rattle.chip_model.specs.Chip.{tile_count}
 use Rattle.chip_model.specs.Snoop.{CacheSide, Outcome, quiet, after_snoop, after_data}
 use Rattle.chip_model.specs.Records.{Records, answered, back_arrived}
 use Rattle.chip_model.specs.Node.{Node, with_side, words_arrived, arrived_as, node_after_request, node_after_message}
 use Rattle.chip_model.specs.NodeShape.{NodeFits}
-use Rattle.chip_model.specs.Ownership.{owner, is_tile, owns, delivered_to, OwnsByOrder}
+use Rattle.chip_model.specs.Ownership.{owner, is_tile, owns, OwnsByOrder}
 use Rattle.chip_model.specs.Units.{UnitState, performed, in_order}
 use Rattle.chip_model.specs.Suppliers.{supplier}
 use Rattle.snoop_core.specs.Requests.{OwnRequestFits}
@@ -28,7 +28,7 @@ use Rattle.chip_laws.proofs.SupplyDeliveries.{supplier_here}
 use Rattle.bound_laws.specs.Measure.{per_answer, answerer, sends_to_go, record_promises, node_to_go, core_to_go, unit_to_go}
 use Rattle.bound_laws.proofs.AnswerCounts.{is_by}
 use Rattle.bound_laws.proofs.SideSteps.{IsInside, Waits, SideGrows, side_stays, side_price, side_more, words_come, request_comes}
-use Rattle.bound_laws.proofs.HomeSteps.{HomeGrows, home_price, request_at_home, words_at_home}
+use Rattle.bound_laws.proofs.HomeSteps.{home_price, request_at_home, words_at_home}
 
 performed_node : (unit : UnitState) (node : Node) (done : Option Done) → (performed unit (node, done)).0.node ≡ node
 performed_node unit node None = refl
