@@ -15,18 +15,10 @@ use Rattle.chip_model.specs.ChipState.{ChipState}
 use Rattle.chip_model.specs.Ownership.{owner}
 use Rattle.chip_model.specs.Suppliers.{delivered_at}
 use Rattle.net_iface.proofs.Named.{slice_get-append_left}
+use Rattle.chip_laws.proofs.SupplyCounts.{count_by-same}
 use Rattle.bound_laws.specs.Measure.{per_answer, answerer, has_to_come, is_to_answer_at, is_to_answer, answers_to_go}
-use Rattle.bound_laws.proofs.Sums.{cond_le}
+use Rattle.bound_laws.proofs.Sums.{cond_le, sum_ones}
 use Rattle.bound_laws.proofs.WindowSteps.{count-split}
-use Rattle.bound_laws.proofs.RequestSteps.{sum_ones}
-
--- tests that agree on these numbers count the same
-pub count-agree : (p q : ℕ → Bool) (first count : ℕ) → ((k : ℕ) → first ≤ k → k < first + count → p k ≡ q k) → count_by p (upwards first count) ≡ count_by q (upwards first count)
-count-agree p q first zero agree = refl
-count-agree p q first (suc count) agree =
-    let rest = count-agree p q (first + 1) count (λ k from to. agree k (omega arith) (omega arith)) in
-    let here : cond {A = ℕ} (p first) 1 0 ≡ cond (q first) 1 0 = ap (λ (b : Bool). cond b 1 0) (agree first (omega arith) (omega arith)) in
-    omega (arith, sum_by-cons (λ k. cond (p k) 1 0) first (upwards (first + 1) count), sum_by-cons (λ k. cond (q k) 1 0) first (upwards (first + 1) count))
 
 count_le : (p : ℕ → Bool) (first count : ℕ) → count_by p (upwards first count) ≤ count
 count_le p first count = sum_ones (λ k. cond (p k) 1 0) first count (λ k. cond_le (p k) 1)
@@ -57,7 +49,7 @@ unfolding answers_to_go
 answers_grow chip s new more ordered same =
     let longer : length new.network.ordered ≡ length s.network.ordered + length more = ap length ordered ∙ length-append s.network.ordered more in
     let parts = ap (λ (count : ℕ). count_by (is_to_answer chip new) (upwards 0 count)) longer ∙ count-split (is_to_answer chip new) (length s.network.ordered) (length more) in
-    let old = count-agree (is_to_answer chip new) (is_to_answer chip s) 0 (length s.network.ordered) (λ place from to. same_answer chip s new more place ordered same (omega arith)) in
+    let old = count_by-same (is_to_answer chip new) (is_to_answer chip s) 0 (length s.network.ordered) (λ place from to. same_answer chip s new more place ordered same (omega arith)) in
     let few = count_le (is_to_answer chip new) (length s.network.ordered) (length more) in
     let all : count_by (is_to_answer chip new) (upwards 0 (length new.network.ordered)) ≤ count_by (is_to_answer chip s) (upwards 0 (length s.network.ordered)) + length more = omega arith in
     let less = mul-le-mul_left (per_answer chip) all in

@@ -15,7 +15,6 @@ use Rattle.chip_model.specs.Node.{with_side}
 use Rattle.chip_model.specs.Units.{UnitState, core_after}
 use Rattle.chip_model.specs.UnitShape.{IsAccess}
 use Rattle.bound_laws.specs.Measure.{per_request, per_instruction, access_to_go, effect_to_go, next_to_go, instructions_to_go, core_to_go}
-use Rattle.bound_laws.proofs.CacheRoom.{TakesAll}
 
 -- ---- what an instruction costs at most
 cond_below : (b : Bool) (m n k : ℕ) → m ≤ k → n ≤ k → cond b m n ≤ k
@@ -98,6 +97,10 @@ access_done chip program core pending access = by (effect_of (instr_at program c
     by Halts is access = absurd access
 
 -- ---- a core that stays where it is
+-- a cache that takes all the lines that another one takes
+abbrev pub TakesAll : Chip → Cache → Cache → Type 0
+TakesAll chip old new = (line : ℕ) → fits chip old line ≡ true → fits chip new line ≡ true
+
 access_mono : (chip : Chip) (old new : Cache) (line : ℕ) → TakesAll chip old new → access_to_go chip new line ≤ access_to_go chip old line
 access_mono chip old new line takes = by (fits chip old line) (fits chip new line) (takes line)
   where

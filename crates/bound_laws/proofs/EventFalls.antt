@@ -25,8 +25,8 @@ use Rattle.chip_model.specs.Events.{with_network, with_node, unit_at, tick, inje
 use Rattle.chip_model.specs.Suppliers.{count_of}
 use Rattle.net_iface.proofs.Binds.{bind_eq, made}
 use Rattle.net_iface.proofs.Places.{slice_get-set_same, slice_get-set_other}
+use Rattle.chip_laws.proofs.SupplyCounts.{sum_by-set}
 use Rattle.bound_laws.specs.Measure.{per_request, demand_promises, unsent_to_go, node_to_go, core_to_go, unit_to_go, Lowers, Falls}
-use Rattle.bound_laws.proofs.Sums.{sum_set}
 use Rattle.bound_laws.proofs.CoreToGo.{core_side}
 use Rattle.bound_laws.proofs.WindowSteps.{take_lowers, post_lowers, tick_lowers}
 use Rattle.bound_laws.proofs.RequestSteps.{hop_lowers, inject_grows}
@@ -124,7 +124,7 @@ inject_falls chip s new tile interfaces =
     let after = with_node tile unit (after_request_sent unit.node) (with_network net s) in
     let sent_unit = record unit { node = after_request_sent unit.node } in
     let answers = answers_same chip s after step.ordered (counts_set s.units tile unit sent_unit there (same_delivered unit.node)) in
-    let units = sum_set (unit_to_go chip) s.units tile unit sent_unit there in
+    let units = sum_by-set (unit_to_go chip) s.units tile unit sent_unit there in
     let falls = sent_falls chip unit asked wants in
     let grows = step.grows in omega arith) is) n last) n last)
     new
@@ -156,7 +156,7 @@ send_falls chip s new tile own =
     (let after = with_node tile unit (after_message_sent unit.node) (record s { replies = replies }) in
     let sent_unit = record unit { node = after_message_sent unit.node } in
     let answers = answers_same chip s after refl (counts_set s.units tile unit sent_unit there (still_delivered unit.node)) in
-    let units = sum_set (unit_to_go chip) s.units tile unit sent_unit there in
+    let units = sum_by-set (unit_to_go chip) s.units tile unit sent_unit there in
     let falls = message_falls chip unit msg first in
     let far = ap (λ (t : ℕ). distance chip.grid t msg.to) (own tile unit there) in
     let grows = sent_grows chip.grid s.replies replies tile msg sends in omega arith) is) n last) n last)

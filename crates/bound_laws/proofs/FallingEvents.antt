@@ -49,7 +49,7 @@ event_falls chip s new (Core tile) may is = core_falls chip s new tile may.chips
 event_falls chip s new (Inject tile) may is = inject_falls chip s new tile may.network.interfaces is
 event_falls chip s new (Post tile) may is = post_falls chip s new tile is
 event_falls chip s new (Take tile) may is = take_falls chip s new tile is
-event_falls chip s new (Eject tile) may is = eject_falls chip s new tile may.chips may.network.ordered may.network.copies may.next is
+event_falls chip s new (Eject tile) may is = eject_falls chip s new tile may.chips may.network.copies may.next is
 event_falls chip s new (Send tile) may is = send_falls chip s new tile may.tiles is
 event_falls chip s new (Hop router port slot out) may is = hop_falls chip s new router port slot out may.some may.network.copies is
 event_falls chip s new (DataHop router port slot) may is = data_hop_falls chip s new router port slot may.some is
@@ -108,12 +108,17 @@ may_fall d s laws forward own holds cores = record {
         let of = (at t unit there).holds in
         let known = own t unit q net there delivers in
         let request = request_inside d s unit.node.delivered q laws holds known.0 in
-        (known.0, record {
-          inside = inside t unit there;
-          waits = wait t unit there;
-          fits = of.node.fits;
-          owns = of.serves.owns;
-          source = subst (λ (c : Chip). q.source < tile_count c) (sym of.node.chip) request.source;
-          line = subst (λ (c : Chip). q.line < c.lines) (sym of.node.chip) request.line;
-          own = known.1;
-        }, of.node.agrees.tile)
+        record {
+          next = known.0;
+          within = λ interface at_tile. omega (arith, slice_get_within s.network.ordered unit.node.delivered q known.0, (holds.tiles t interface unit at_tile there).node.agrees.counts);
+          comes = record {
+            inside = inside t unit there;
+            waits = wait t unit there;
+            fits = of.node.fits;
+            owns = of.serves.owns;
+            source = subst (λ (c : Chip). q.source < tile_count c) (sym of.node.chip) request.source;
+            line = subst (λ (c : Chip). q.line < c.lines) (sym of.node.chip) request.line;
+            own = known.1;
+          };
+          tile = of.node.agrees.tile;
+        }

@@ -5,7 +5,7 @@ use Rattle.std.specs.Prelude.{slice_index_or, ◌==◌}
 use Rattle.std.specs.List.{sum_by}
 use Rattle.std.proofs.lemmas.Bool.{cases_lt, cond_both}
 use Rattle.std.proofs.lemmas.List.{get_or_past}
-use Rattle.std.proofs.lemmas.List.Sums.{sum_by-set, sum_by_push}
+use Rattle.std.proofs.lemmas.List.Sums.{sum_by_push}
 use Rattle.mesh_gen.specs.declared.kind.Kind.{Kind}
 use Rattle.mesh_gen.specs.declared.kind.Kind.TheVariants.{GetS, GetM, PutM}
 use Rattle.mesh_gen.specs.declared.request.Request.{Request}
@@ -17,6 +17,7 @@ use Rattle.chip_model.specs.declared.waiting.Waiting.{Waiting}
 use Rattle.chip_model.specs.Chip.{Chip, tile_count}
 use Rattle.chip_model.specs.Records.{LineRecord, Records, Answer, Answers, from_memory, awaiting_write_back, owned_by_tile, answered_by, answered_at, answered, returned, returned_at, back_arrived}
 use Rattle.chip_laws.proofs.SupplyAccounts.{is_memory, is_from_memory}
+use Rattle.chip_laws.proofs.SupplyCounts.{sum_by-set, slice_of_index}
 use Rattle.bound_laws.specs.Measure.{per_answer, sends_to_go, promises_to_go, record_promises}
 use Rattle.bound_laws.proofs.SideSteps.{near, sent_to_all}
 
@@ -66,14 +67,6 @@ record_answers chip t q r Memory asks =
     (λ fresh. memory_answers chip t q r q.kind asks) (λ late. waiting_answers chip t q r q.kind asks)
 record_answers chip t q r (Tile tile) asks = tile_answers chip t q r tile q.kind
 
--- a record that was found stands within the list
-stands_within : (records : Records) (line : ℕ) (r : LineRecord) → slice_index_or records line None ≡ Some r → line < length records
-stands_within records line r is = by (cases_lt line (length records))
-  where
-    by : (line < length records) ⊎ (length records ≤ line) → line < length records
-    by (inl within) = within
-    by (inr past) = let none = get_or_past records line None past in cc
-
 abbrev pub HomeGrows : Grid → ℕ → Records → Answers → ℕ → Type 0
 HomeGrows g t records answers more = sum_by (record_promises g t) answers.records + sends_to_go g t answers.sends ≤ sum_by (record_promises g t) records + more
 
@@ -87,8 +80,7 @@ request_at_home chip t q records tiles tile source = by (slice_index_or records 
     by None is = omega arith
     by (Some r) is =
         let answer = answered_by q r r.owner in
-        let change = sum_by-set (record_promises chip.grid t) records q.line (Some answer.left) None (stands_within records q.line r is) in
-        let was = ap (record_promises chip.grid t) is in
+        let change = sum_by-set (record_promises chip.grid t) records q.line (Some r) (Some answer.left) (slice_of_index records q.line r is) in
         let grows = record_answers chip t q r r.owner (record { tiles = tiles; tile = tile; source = source }) in
         omega arith
 
@@ -100,7 +92,6 @@ words_at_home g t line words records = by (slice_index_or records line None) ref
     by : (found : Option LineRecord) → slice_index_or records line None ≡ found → HomeGrows g t records (returned_at line words records found) 0
     by None is = omega arith
     by (Some r) is =
-        let change = sum_by-set (record_promises g t) records line (Some (returned words r)) None (stands_within records line r is) in
-        let was = ap (record_promises g t) is in
+        let change = sum_by-set (record_promises g t) records line (Some r) (Some (returned words r)) (slice_of_index records line r is) in
         let all = sent_to_all g t line words r.waiters in
         omega arith

@@ -3,7 +3,6 @@ pub mod RequestSteps
 pub mod WindowSteps
 pub mod MessageSteps
 pub mod AnswerCounts
-pub mod CacheRoom
 pub mod CoreToGo
 pub mod OpeningMeasure
 pub mod EventFalls

@@ -33,8 +33,9 @@ use Rattle.router_xy.proofs.OwedCounts.{weigh-leave, weigh-arrive}
 use Rattle.router_xy.proofs.Steps.{lowest_is_free, entry_is_free, hops_away}
 use Rattle.router_xy.proofs.LocalPlaces.{local_stands}
 use Rattle.net_iface.proofs.Binds.{bind_eq, made}
+use Rattle.chip_laws.proofs.SupplyCounts.{sum_by-set}
 use Rattle.bound_laws.specs.Measure.{behind, hops_by, hops_of, hop_weight, hops_to_go, requests_to_go, per_made, per_request, Lowers, MakesFor}
-use Rattle.bound_laws.proofs.Sums.{counts_one, cond_le, sum_same, sum_set}
+use Rattle.bound_laws.proofs.Sums.{counts_one, cond_le, sum_same, sum_ones}
 
 -- ---- the tiles behind a router's ports
 abbrev to_each : Grid → ℕ → ℕ → List ℕ → Port → ℕ
@@ -188,13 +189,6 @@ hop_lowers chip net new r port slot out some fits =
     new
 
 -- ---- a request is made
-pub sum_ones : (f : ℕ → ℕ) (first count : ℕ) → ((x : ℕ) → f x ≤ 1) → sum_by f (upwards first count) ≤ count
-sum_ones f first zero each = omega arith
-sum_ones f first (suc count) each =
-    let rest = sum_ones f (first + 1) count each in
-    let here = each first in
-    omega (arith, sum_by-cons f first (upwards (first + 1) count))
-
 -- at its source a request has all tiles but that one to go to
 source_hops : (g : Grid) (q : Request) → q.source < tiles g → hops_of g q.source (arriving g q.source q) + 1 ≤ tiles g
 source_hops g q inside =
@@ -233,8 +227,8 @@ inject_grows chip net new t kind line interfaces =
         let more = made_more interface in
         let within = slice_get_within net.interfaces t interface there in
         let copies_grow = entered_grows chip.grid net.copies copies (next_request t interface kind line) (omega arith) enters in
-        let prices = sum_set (λ (interface : Interface). per_made chip * (length interface.made - interface.posted)) net.interfaces t interface more there in
-        let deliveries = sum_set (λ (interface : Interface). length net.ordered - interface.delivered) net.interfaces t interface more there in
+        let prices = sum_by-set (λ (interface : Interface). per_made chip * (length interface.made - interface.posted)) net.interfaces t interface more there in
+        let deliveries = sum_by-set (λ (interface : Interface). length net.ordered - interface.delivered) net.interfaces t interface more there in
         let longer = length-append interface.made (next_request t interface kind line ∷ []) in
         let price = mul-le-mul_left (per_made chip) (one_longer (length more.made) (length interface.made) interface.posted longer) in
         omega (arith, mul-add (per_made chip) (length interface.made - interface.posted) 1)
@@ -243,29 +237,6 @@ inject_grows chip net new t kind line interfaces =
         one_longer b a p longer = omega arith
 
 -- ---- a delivery
-order-take : (n k j : ℕ) (windows : List ℕ) → length (order_from n k (take j windows)) ≤ length (order_from n k windows)
-order-take n k zero windows = omega arith
-order-take n k (suc j) [] = omega arith
-order-take n k (suc j) (window ∷ windows) =
-    let rest = order-take n (k + 1) j windows in
-    omega (arith, length-append (expansion n k window) (order_from n (k + 1) (take j windows)), length-append (expansion n k window) (order_from n (k + 1) windows))
-
-entry_within : (sources : List ℕ) (place : ℕ) (name : Name) → entry_at sources place ≡ Some name → place < length sources
-entry_within sources place name = by (slice_get sources place) refl
-  where
-    by : (o : Option ℕ) → slice_get sources place ≡ o → entry_at sources place ≡ Some name → place < length sources
-    by None is found = let none : entry_at sources place ≡ None = rw is refl in cc
-    by (Some source) is found = slice_get_within sources place source is
-
-pub expected_within : (chip : Chip) (net : OrderedNetwork) (t : ℕ) (interface : Interface) (name : Name) → IsInOrder chip net → slice_get net.interfaces t ≡ Some interface → expected_at chip net t ≡ Some name → interface.delivered < length net.ordered
-unfolding expected_at
-expected_within chip net t interface name in_order there expects = bind_eq (λ (name : Name). interface.delivered < length net.ordered) (slice_get net.windows.taken t) _
-    (λ taken counted n is.
-    let inside = entry_within (order (tile_count chip) (take taken net.windows.closed)) interface.delivered n is in
-    let front = order-take (tile_count chip) 0 taken net.windows.closed in
-    let whole = ap length in_order in
-    omega (arith, length-map net.ordered (λ (q : Request). q.source))) name (rw there at expects)
-
 served_same : (g : Grid) (net : Network NetCopy) (t : ℕ) (name : Name) (out : Request × Network NetCopy) → CopiesFit g net → after_serve net t name ≡ Some out → hops_to_go g out.1 ≡ hops_to_go g net
 unfolding after_serve
 served_same g net t name out fits =
@@ -286,17 +257,18 @@ served_same g net t name out fits =
         let leaves = weigh-leave (hop_weight g) net t place.0 place.1 copy (left_by L copy) 0 stands (hops_left g t place.0 place.1 L copy on.ports owed) in
         omega arith
 
-pub delivery_lowers : (chip : Chip) (net : OrderedNetwork) (t : ℕ) (out : Request × OrderedNetwork) → IsInOrder chip net → CopiesFit chip.grid net.copies → after_delivery chip net t ≡ Some out → Lowers chip net out.1
+pub delivery_lowers : (chip : Chip) (net : OrderedNetwork) (t : ℕ) (out : Request × OrderedNetwork) → ((interface : Interface) → slice_get net.interfaces t ≡ Some interface → interface.delivered < length net.ordered) → CopiesFit chip.grid net.copies
+    → after_delivery chip net t ≡ Some out → Lowers chip net out.1
 unfolding after_delivery requests_to_go
-delivery_lowers chip net t out in_order fits =
+delivery_lowers chip net t out within fits =
     bind_eq P (slice_get net.interfaces t) _
     (λ interface there last done. bind_eq P (expected_at chip net t) _
     (λ name expects last done. bind_eq P (after_serve net.copies t name) _
     (λ one serves last is. made P (one.0, with_interface (record net { copies = one.1 }) t (delivered_more interface)) last
-    (let within = expected_within chip net t interface name in_order there expects in
+    (let less = within interface there in
     let same = served_same chip.grid net.copies t name one fits serves in
-    let prices = sum_set (λ (interface : Interface). per_made chip * (length interface.made - interface.posted)) net.interfaces t interface (delivered_more interface) there in
-    let deliveries = sum_set (λ (interface : Interface). length net.ordered - interface.delivered) net.interfaces t interface (delivered_more interface) there in
+    let prices = sum_by-set (λ (interface : Interface). per_made chip * (length interface.made - interface.posted)) net.interfaces t interface (delivered_more interface) there in
+    let deliveries = sum_by-set (λ (interface : Interface). length net.ordered - interface.delivered) net.interfaces t interface (delivered_more interface) there in
     record { ordered = refl; lowers = omega arith }) is)
     last done) last done)
     out

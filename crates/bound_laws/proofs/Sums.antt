@@ -1,10 +1,11 @@
 -- Sums over lists that a step changes.
-use Rattle.std.proofs.Common.{◌≡◌, ℕ, suc, ◌+◌, ◌-◌, ◌*◌, ◌<◌, ◌≤◌, Bool, true, false, cond, List, [], ◌∷◌, Option, Some, None, length, get_or, set, refl, ap, arith}
+use Rattle.std.proofs.Common.{◌≡◌, ℕ, zero, suc, ◌+◌, ◌-◌, ◌*◌, ◌<◌, ◌≤◌, Bool, true, false, cond, List, [], ◌∷◌, Option, Some, None, length, get_or, set, refl, ap, arith}
 use Rattle.std.specs.Prelude.{slice_get, count_by}
 use Rattle.std.specs.List.{sum_by, filter_map, cons_option}
 use Rattle.std.proofs.Math.Nat.{mul-add}
 use Rattle.std.proofs.lemmas.List.Sums.{sum_by-cons, sum_by-set}
 use Rattle.mesh_gen.specs.Ports.{count_if}
+use Rattle.order_tracker.specs.Order.{upwards}
 use Rattle.std.proofs.lemmas.Option.{slice_get_within, get_or_from_slice_get}
 
 -- a test counts one or none
@@ -26,15 +27,6 @@ sum_same f g (x ∷ xs) same =
     let rest = sum_same f g xs same in
     let first = same x in
     omega (arith, sum_by-cons f x xs, sum_by-cons g x xs)
-
--- a write changes a sum by what it takes out and what it puts in
-pub sum_set : {X : Type 0} (f : X → ℕ) (xs : List X) (t : ℕ) (x y : X) → slice_get xs t ≡ Some x → sum_by f (set xs t y) + f x ≡ sum_by f xs + f y
-sum_set f xs t x y there =
-    let within = slice_get_within xs t x there in
-    let was : get_or xs t x ≡ x = get_or_from_slice_get xs t x x there in
-    let change = sum_by-set f xs t y x within in
-    let same = ap f was in
-    omega arith
 
 -- where each part grows by at most so much, the sum grows by at most so much for each
 pub sum_rises : {X : Type 0} (f g : X → ℕ) (more : ℕ) (xs : List X) → ((x : X) → f x ≤ g x + more) → sum_by f xs ≤ sum_by g xs + more * length xs
@@ -63,3 +55,11 @@ count_none p (x ∷ xs) none =
     let rest = count_none p xs (λ k y there. none (suc k) y there) in
     let first = counts_none (p x) (none 0 x refl) in
     omega (arith, sum_by-cons (λ x. cond (p x) 1 0) x xs)
+
+-- where each part is at most one, the sum is at most their number
+pub sum_ones : (f : ℕ → ℕ) (first count : ℕ) → ((x : ℕ) → f x ≤ 1) → sum_by f (upwards first count) ≤ count
+sum_ones f first zero each = omega arith
+sum_ones f first (suc count) each =
+    let rest = sum_ones f (first + 1) count each in
+    let here = each first in
+    omega (arith, sum_by-cons f first (upwards (first + 1) count))

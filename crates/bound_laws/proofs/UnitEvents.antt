@@ -1,5 +1,5 @@
 -- The events of the units of in-order cores lower the measure: a core event, a delivery, and a message that comes.
-use Rattle.std.proofs.Common.{◌≡◌, ◌≢◌, ℕ, ◌+◌, ◌*◌, ◌<◌, ◌≤◌, List, Some, take, set, refl, sym, ◌∙◌, ap, subst, ⊎_elim, arith}
+use Rattle.std.proofs.Common.{◌≡◌, ◌≢◌, ℕ, ◌+◌, ◌*◌, ◌<◌, ◌≤◌, List, Some, length, take, set, refl, sym, ◌∙◌, ap, subst, ⊎_elim, arith}
 use Rattle.std.specs.Prelude.{slice_get}
 use Rattle.std.proofs.lemmas.Bool.{cases_eq}
 use Rattle.std.proofs.lemmas.Option.{slice_get_within}
@@ -7,8 +7,7 @@ use Rattle.mesh_gen.specs.declared.port.Port.{Port}
 use Rattle.mesh_gen.specs.declared.request.Request.{Request}
 use Rattle.chip_model.specs.Chip.{Chip}
 use Rattle.chip_model.specs.CopiesOwed.{CopiesFit}
-use Rattle.chip_model.specs.Bookkeeping.{IsInOrder}
-use Rattle.chip_model.specs.OrderedNetwork.{OrderedNetwork, after_delivery}
+use Rattle.chip_model.specs.OrderedNetwork.{OrderedNetwork, Interface, after_delivery}
 use Rattle.chip_model.specs.Replies.{after_data_eject}
 use Rattle.chip_model.specs.Units.{UnitState, in_order}
 use Rattle.chip_model.specs.ChipState.{ChipState}
@@ -18,8 +17,8 @@ use Rattle.net_iface.proofs.Binds.{bind_eq, made}
 use Rattle.net_iface.proofs.Places.{slice_get-set_same, slice_get-set_other}
 use Rattle.mesh_gen.specs.Ports.{count_if}
 use Rattle.chip_model.specs.Ownership.{owner}
+use Rattle.chip_laws.proofs.SupplyCounts.{sum_by-set}
 use Rattle.bound_laws.specs.Measure.{per_answer, answerer, unit_to_go, Falls}
-use Rattle.bound_laws.proofs.Sums.{sum_set}
 use Rattle.bound_laws.proofs.AnswerCounts.{is_by, answers_same, Delivers, answers_fall}
 use Rattle.bound_laws.proofs.MessageSteps.{received_lowers}
 use Rattle.bound_laws.proofs.RequestSteps.{delivery_lowers}
@@ -48,7 +47,7 @@ core_falls chip s new tile of all =
     let later = (in_order.stepped unit).0 in
     let falls = subst (λ (c : Chip). unit_to_go c later < unit_to_go c unit) (of tile unit there) steps.falls in
     let answers = answers_same chip s (with_acted tile (in_order.stepped unit) s) refl (counts_set s.units tile unit later there steps.delivered) in
-    let units = sum_set (unit_to_go chip) s.units tile unit later there in
+    let units = sum_by-set (unit_to_go chip) s.units tile unit later there in
     omega arith) ready.1)
     new
 
@@ -67,16 +66,22 @@ data_eject_falls chip s new r port slot of wait =
     let later = (in_order.received out.0 unit).0 in
     let to_go = subst (λ (c : Chip). unit_to_go c later ≤ unit_to_go c unit) (of r unit there) keeps.to_go in
     let answers = answers_same chip s (with_acted r (in_order.received out.0 unit) (record s { replies = out.1 })) refl (counts_set s.units r unit later there keeps.delivered) in
-    let units = sum_set (unit_to_go chip) s.units r unit later there in
+    let units = sum_by-set (unit_to_go chip) s.units r unit later there in
     let lowers = received_lowers chip.grid s.replies r port slot out comes in
     omega arith) is) n last)
     new
 
 -- ---- a delivery
 -- what a tile delivers is the next request of the order for its unit
+pub record ComesInTurn (s : ChipState) (t : ℕ) (unit : UnitState) (q : Request) : Type 0 where
+  pub next : slice_get s.network.ordered unit.node.delivered ≡ Some q
+  pub within : (interface : Interface) → slice_get s.network.interfaces t ≡ Some interface → interface.delivered < length s.network.ordered
+  pub comes : ComesNext s.network.ordered unit q
+  pub tile : unit.node.tile ≡ t
+
 abbrev pub DeliveriesComeNext : Chip → ChipState → Type 0
 DeliveriesComeNext chip s = (t : ℕ) (unit : UnitState) (q : Request) (net : OrderedNetwork) → slice_get s.units t ≡ Some unit → after_delivery chip s.network t ≡ Some (q, net)
-    → (slice_get s.network.ordered unit.node.delivered ≡ Some q) × ComesNext s.network.ordered unit q × (unit.node.tile ≡ t)
+    → ComesInTurn s t unit q
 
 delivers : (s new : ChipState) (tile : ℕ) (unit later : UnitState) → slice_get s.units tile ≡ Some unit → new.units ≡ set s.units tile later → new.network.ordered ≡ s.network.ordered
     → later.node.delivered ≡ unit.node.delivered + 1 → Delivers s new tile unit.node.delivered
@@ -91,10 +96,10 @@ delivers s new tile unit later there units ordered one = record { ordered = orde
         (λ (other : k ≢ tile). let same = ap (λ (units : List UnitState). count_of (slice_get units k)) units ∙ ap count_of (slice_get-set_other s.units tile k later other) in omega arith)
         (cases_eq k tile)
 
-pub eject_falls : (chip : Chip) (s new : ChipState) (tile : ℕ) → AreOfChip chip s → IsInOrder chip s.network → CopiesFit chip.grid s.network.copies → DeliveriesComeNext chip s
+pub eject_falls : (chip : Chip) (s new : ChipState) (tile : ℕ) → AreOfChip chip s → CopiesFit chip.grid s.network.copies → DeliveriesComeNext chip s
     → eject in_order chip s tile ≡ Some new → Falls chip s new
 unfolding unit_at
-eject_falls chip s new tile of in_turn fits next =
+eject_falls chip s new tile of fits next =
     bind_eq (Falls chip s) (slice_get s.units tile) _
     (λ unit there n last. bind_eq (Falls chip s) (after_delivery chip s.network tile) _
     (λ out comes n is. made (Falls chip s) (with_acted tile (in_order.delivered out.0 unit) (with_network out.1 s)) n (falls unit out there comes) is) n last)
@@ -105,13 +110,13 @@ eject_falls chip s new tile of in_turn fits next =
     falls unit out there comes =
         let known = next tile unit out.0 out.1 there comes in
         let later = (in_order.delivered out.0 unit).0 in
-        let grow = delivery_grows s.network.ordered unit out.0 known.1 in
-        let step = delivery_lowers chip s.network tile out in_turn fits comes in
+        let grow = delivery_grows s.network.ordered unit out.0 known.comes in
+        let step = delivery_lowers chip s.network tile out known.within fits comes in
         let after = with_acted tile (in_order.delivered out.0 unit) (with_network out.1 s) in
-        let answers = answers_fall chip s after tile unit.node.delivered out.0 (delivers s after tile unit later there refl step.ordered grow.delivered) known.0 in
-        let units = sum_set (unit_to_go chip) s.units tile unit later there in
+        let answers = answers_fall chip s after tile unit.node.delivered out.0 (delivers s after tile unit later there refl step.ordered grow.delivered) known.next in
+        let units = sum_by-set (unit_to_go chip) s.units tile unit later there in
         let lowers = step.lowers in
-        let grows = at_tile unit out.0 (of tile unit there) known.2 grow.grows in
+        let grows = at_tile unit out.0 (of tile unit there) known.tile grow.grows in
         omega arith
       where
         at_tile : (unit : UnitState) (q : Request) → unit.node.chip ≡ chip → unit.node.tile ≡ tile

@@ -16,9 +16,10 @@ use Rattle.chip_model.specs.NetworkShape.{WindowsFit}
 use Rattle.net_iface.proofs.Binds.{bind_eq, made}
 use Rattle.window_core.specs.WindowSteps.{TickPasses}
 use Rattle.window_core.proofs.Holds.{post_is, tick_is}
+use Rattle.chip_laws.proofs.SupplyCounts.{sum_by-set, upwards-append}
 use Rattle.bound_laws.specs.Measure.{per_answer, per_posted, per_made, posted_count, window_to_go, vectors_to_go, deliveries_to_go, windows_to_go, requests_to_go, Lowers, TickLowers}
 use Rattle.bound_laws.proofs.Sums.{count_none}
-use Rattle.bound_laws.proofs.Sums.{counts_one, counts_none, cond_le, sum_set, sum_rises, product_falls, length-filter_map-le}
+use Rattle.bound_laws.proofs.Sums.{counts_one, counts_none, cond_le, sum_rises, product_falls, length-filter_map-le}
 
 -- ---- a take
 taken_lowers : (chip : Chip) (w new : Windows) (t : ℕ) → after_take w t ≡ Some new → windows_to_go chip new < windows_to_go chip w
@@ -28,7 +29,7 @@ taken_lowers chip w new t =
     (λ count there last done. bind_eq (λ (new : Windows). windows_to_go chip new < windows_to_go chip w) (slice_get w.closed count) _
     (λ vector is_there n is. made (λ (new : Windows). windows_to_go chip new < windows_to_go chip w) (record w { taken = set w.taken t (count + 1) }) n
     (let less = slice_get_within w.closed count vector is_there in
-    let change = sum_set (λ count. length w.closed - count) w.taken t count (count + 1) there in omega arith) is) last done)
+    let change = sum_by-set (λ count. length w.closed - count) w.taken t count (count + 1) there in omega arith) is) last done)
     new
 
 pub take_lowers : (chip : Chip) (net new : OrderedNetwork) (t : ℕ) → after_vector_take net t ≡ Some new → Lowers chip net new
@@ -107,9 +108,9 @@ post_lowers chip net new t =
     lowers interface windows there less posts =
         let grows = posted_grows chip net.windows windows t posts in
         let new = record interface { posted = interface.posted + 1 } in
-        let prices = sum_set (λ (interface : Interface). per_made chip * (length interface.made - interface.posted)) net.interfaces t interface new there in
+        let prices = sum_by-set (λ (interface : Interface). per_made chip * (length interface.made - interface.posted)) net.interfaces t interface new there in
         let price = product_falls (per_made chip) (length interface.made) interface.posted less in
-        let deliveries = sum_set (λ (interface : Interface). length net.ordered - interface.delivered) net.interfaces t interface new there in
+        let deliveries = sum_by-set (λ (interface : Interface). length net.ordered - interface.delivered) net.interfaces t interface new there in
         record { ordered = refl; lowers = omega arith }
 
     guarded : (interface : Interface) → slice_get net.interfaces t ≡ Some interface → (more : Bool) → nat_lt interface.posted (length interface.made) ≡ more → (n : OrderedNetwork) → cond more (after_post net.windows t >>= (λ windows. Some (after interface windows))) None ≡ Some n → Lowers chip net n
@@ -117,20 +118,10 @@ post_lowers chip net new t =
     guarded interface there false is n last = cc
 
 -- ---- how many requests a window orders
-upwards_split : (a b c : ℕ) → upwards a (b + c) ≡ upwards a b ++ upwards (a + b) c
-upwards_split a zero c =
-    let none : zero + c ≡ c = omega arith in
-    let here : a + zero ≡ a = omega arith in
-    rw (none, here) refl
-upwards_split a (suc b) c =
-    let one : suc b + c ≡ suc (b + c) = omega arith in
-    let shift : a + suc b ≡ (a + 1) + b = omega arith in
-    rw (one, shift) (ap (λ rest. a ∷ rest) (upwards_split (a + 1) b c))
-
 pub count-split : (p : ℕ → Bool) (b c : ℕ) → count_by p (upwards 0 (b + c)) ≡ count_by p (upwards 0 b) + count_by p (upwards b c)
 count-split p b c =
     let from : 0 + b ≡ b = omega arith in
-    let split : upwards 0 (b + c) ≡ upwards 0 b ++ upwards b c = upwards_split 0 b c ∙ ap (λ (first : ℕ). upwards 0 b ++ upwards first c) from in
+    let split : upwards 0 (b + c) ≡ upwards 0 b ++ upwards b c = upwards-append 0 b c ∙ ap (λ (first : ℕ). upwards 0 b ++ upwards first c) from in
     ap (count_by p) split ∙ sum_by-append (λ x. cond (p x) 1 0) (upwards 0 b) (upwards b c)
 
 count-round : (p : ℕ → Bool) (n first : ℕ) → first ≤ n → count_by p (round_from n first) ≡ count_by p (upwards 0 n)
