@@ -27,7 +27,8 @@ count_le p first count = sum_ones (λ k. cond (p k) 1 0) first count (λ k. cond
 abbrev pub SameCounts : ChipState → ChipState → Type 0
 SameCounts s new = (t : ℕ) → delivered_at new t ≡ delivered_at s t
 
-same_answer : (chip : Chip) (s new : ChipState) (more : List Request) (place : ℕ) → new.network.ordered ≡ s.network.ordered ++ more → SameCounts s new → place < length s.network.ordered → is_to_answer chip new place ≡ is_to_answer chip s place
+same_answer : (chip : Chip) (s new : ChipState) (more : List Request) (place : ℕ) → new.network.ordered ≡ s.network.ordered ++ more → SameCounts s new
+    → place < length s.network.ordered → is_to_answer chip new place ≡ is_to_answer chip s place
 same_answer chip s new more place ordered same within =
     let there : slice_get new.network.ordered place ≡ slice_get s.network.ordered place = ap (λ requests. slice_get requests place) ordered ∙ slice_get-append_left s.network.ordered more place within in
     let front : take place new.network.ordered ≡ take place s.network.ordered = ap (take place) ordered ∙ take-append-le place s.network.ordered more (omega arith) in
@@ -37,14 +38,16 @@ same_answer chip s new more place ordered same within =
     come None = refl
     come (Some t) = ap (λ (count : ℕ). nat_le count place) (same t)
 
-    by : (o : Option Request) → take place new.network.ordered ≡ take place s.network.ordered → is_to_answer_at chip new place o ≡ is_to_answer_at chip s place o
+    by : (o : Option Request) → take place new.network.ordered ≡ take place s.network.ordered
+        → is_to_answer_at chip new place o ≡ is_to_answer_at chip s place o
     by None front = refl
     by (Some q) front =
         ap (λ (requests : List Request). has_to_come new place (answerer chip q (owner q.line requests))) front
         ∙ come (answerer chip q (owner q.line (take place s.network.ordered)))
 
 -- each request that is ordered is one more to be answered, at most
-pub answers_grow : (chip : Chip) (s new : ChipState) (more : List Request) → new.network.ordered ≡ s.network.ordered ++ more → SameCounts s new → answers_to_go chip new ≤ answers_to_go chip s + per_answer chip * length more
+pub answers_grow : (chip : Chip) (s new : ChipState) (more : List Request) → new.network.ordered ≡ s.network.ordered ++ more → SameCounts s new
+    → answers_to_go chip new ≤ answers_to_go chip s + per_answer chip * length more
 unfolding answers_to_go
 answers_grow chip s new more ordered same =
     let longer : length new.network.ordered ≡ length s.network.ordered + length more = ap length ordered ∙ length-append s.network.ordered more in
@@ -55,7 +58,8 @@ answers_grow chip s new more ordered same =
     let less = mul-le-mul_left (per_answer chip) all in
     omega (arith, mul-add (per_answer chip) (count_by (is_to_answer chip s) (upwards 0 (length s.network.ordered))) (length more))
 
-pub answers_same : (chip : Chip) (s new : ChipState) → new.network.ordered ≡ s.network.ordered → SameCounts s new → answers_to_go chip new ≤ answers_to_go chip s
+pub answers_same : (chip : Chip) (s new : ChipState) → new.network.ordered ≡ s.network.ordered → SameCounts s new
+    → answers_to_go chip new ≤ answers_to_go chip s
 answers_same chip s new ordered same =
     let grow = answers_grow chip s new [] (ordered ∙ sym (append-nil s.network.ordered)) same in
     let none : per_answer chip * length {A = Request} [] ≡ 0 = omega arith in
@@ -66,7 +70,8 @@ abbrev pub is_by : ℕ → Option ℕ → Bool
 is_by t None = false
 is_by t (Some answers) = answers == t
 
-count_mono : (p q : ℕ → Bool) (first count : ℕ) → ((k : ℕ) → count_if (p k) ≤ count_if (q k)) → count_by p (upwards first count) ≤ count_by q (upwards first count)
+count_mono : (p q : ℕ → Bool) (first count : ℕ) → ((k : ℕ) → count_if (p k) ≤ count_if (q k))
+    → count_by p (upwards first count) ≤ count_by q (upwards first count)
 count_mono p q first zero each = omega arith
 count_mono p q first (suc count) each =
     let rest = count_mono p q (first + 1) count each in
@@ -74,12 +79,14 @@ count_mono p q first (suc count) each =
     omega (arith, sum_by-cons (λ k. cond (p k) 1 0) first (upwards (first + 1) count), sum_by-cons (λ k. cond (q k) 1 0) first (upwards (first + 1) count))
 
 -- where a test passes nowhere that it did not, and at one place less by so much, it counts less by so much
-count_falls : (p q : ℕ → Bool) (place less first count : ℕ) → first ≤ place → place < first + count → ((k : ℕ) → count_if (p k) ≤ count_if (q k)) → count_if (p place) + less ≤ count_if (q place)
+count_falls : (p q : ℕ → Bool) (place less first count : ℕ) → first ≤ place → place < first + count → ((k : ℕ) → count_if (p k) ≤ count_if (q k))
+    → count_if (p place) + less ≤ count_if (q place)
     → count_by p (upwards first count) + less ≤ count_by q (upwards first count)
 count_falls p q place less first zero from to each at = absurd (omega arith)
 count_falls p q place less first (suc count) from to each at = by (cases_lt first place) (λ later. count_falls p q place less (first + 1) count (omega arith) (omega arith) each at)
   where
-    by : (first < place) ⊎ (place ≤ first) → (first < place → count_by p (upwards (first + 1) count) + less ≤ count_by q (upwards (first + 1) count)) → count_by p (upwards first (suc count)) + less ≤ count_by q (upwards first (suc count))
+    by : (first < place) ⊎ (place ≤ first) → (first < place → count_by p (upwards (first + 1) count) + less ≤ count_by q (upwards (first + 1) count))
+        → count_by p (upwards first (suc count)) + less ≤ count_by q (upwards first (suc count))
     by (inl later) rest =
         let behind = rest later in
         let here = each first in

@@ -34,7 +34,8 @@ pub record RunLaws (d : Doc) : Type 0 where
   pub in_turn : AreKeptInOrder
   pub fall : AllFall d
 
-pub run_falls : (d : Doc) (events : List Event) (s last : ChipState) → RunLaws d → (laws : KeepsLaws in_order) → StateHolds in_order laws d s → CoresInOrder s → run in_order (chip_of d) s events ≡ Some last
+pub run_falls : (d : Doc) (events : List Event) (s last : ChipState) → RunLaws d → (laws : KeepsLaws in_order) → StateHolds in_order laws d s → CoresInOrder s
+    → run in_order (chip_of d) s events ≡ Some last
     → length events + measure (chip_of d) last ≤ measure (chip_of d) s
 unfolding run
 run_falls d [] s last known laws holds cores e = let same = ap (measure (chip_of d)) (same_Some s last e) in omega arith
@@ -47,6 +48,6 @@ run_falls d (event ∷ events) s last known laws holds cores e =
     let same = noted_measure (chip_of d) made.0 event in
     let new_is = ap (measure (chip_of d)) made.2 in
     let later = run_falls d events new last known laws
-        (subst (StateHolds in_order laws d) made.2 (noted_state in_order laws d made.0 event next))
-        (subst CoresInOrder made.2 (noted_cores made.0 event cores_next)) rest in
+    (subst (StateHolds in_order laws d) made.2 (noted_state in_order laws d made.0 event next))
+    (subst CoresInOrder made.2 (noted_cores made.0 event cores_next)) rest in
     omega arith)

@@ -33,11 +33,13 @@ found_first held rest = rw (eq-eqb held.line held.line refl) refl
 empty_first : (held : Held) (rest : Ways) → has_empty (emptied held.line (Some held ∷ rest)) ≡ true
 empty_first held rest = rw (eq-eqb held.line held.line refl) refl
 
-room_after : (chip : Chip) (cache : Cache) (line : ℕ) (held : Held) → IsCache chip cache → lowest_for chip line cache ≡ Some held → has_room chip (without_line chip held.line cache) line ≡ true
+room_after : (chip : Chip) (cache : Cache) (line : ℕ) (held : Held) → IsCache chip cache → lowest_for chip line cache ≡ Some held
+    → has_room chip (without_line chip held.line cache) line ≡ true
 unfolding lowest_for has_room without_line
 room_after chip cache line held fits = by (get_or cache (set_number chip line) []) refl
   where
-    inside : (rest : Ways) → get_or cache (set_number chip line) [] ≡ Some held ∷ rest → (set_number chip line < length cache) ⊎ (length cache ≤ set_number chip line) → set_number chip line < length cache
+    inside : (rest : Ways) → get_or cache (set_number chip line) [] ≡ Some held ∷ rest
+        → (set_number chip line < length cache) ⊎ (length cache ≤ set_number chip line) → set_number chip line < length cache
     inside rest is (inl within) = within
     inside rest is (inr past) = let none = get_or_past cache (set_number chip line) [] past in cc
 
@@ -56,7 +58,8 @@ room_after chip cache line held fits = by (get_or cache (set_number chip line) [
     by (Some held_first ∷ rest) is low = first rest (is ∙ ap (λ (way : Option Held). way ∷ rest) low)
 
 -- ---- what an access costs
-access_here : (chip : Chip) (cache : Cache) (line : ℕ) (held : Held) → lookup chip cache line ≡ Some held → access_to_go chip cache line ≡ 1 + per_request chip
+access_here : (chip : Chip) (cache : Cache) (line : ℕ) (held : Held) → lookup chip cache line ≡ Some held
+    → access_to_go chip cache line ≡ 1 + per_request chip
 unfolding fits
 access_here chip cache line held is = rw is refl
 
@@ -68,7 +71,8 @@ access_room chip cache line room = rw room (by (is_some (lookup chip cache line)
     by true = refl
     by false = refl
 
-access_full : (chip : Chip) (cache : Cache) (line : ℕ) → lookup chip cache line ≡ None → has_room chip cache line ≡ false → access_to_go chip cache line ≡ per_instruction chip
+access_full : (chip : Chip) (cache : Cache) (line : ℕ) → lookup chip cache line ≡ None → has_room chip cache line ≡ false
+    → access_to_go chip cache line ≡ per_instruction chip
 unfolding fits
 access_full chip cache line is full = rw (is, full) refl
 
@@ -87,7 +91,8 @@ record Tries (unit : UnitState) (access : Pending) : Type 0 where
   running : unit.halted ≡ false
   demand : unit.node.side.misses.demand ≡ None
   cache : IsCache unit.node.chip unit.node.side.cache
-  costs : (cache : Cache) → effect_to_go unit.node.chip cache (effect_of (instr_at unit.program unit.core.place) unit.core) ≡ access_to_go unit.node.chip cache (line_of access.address)
+  costs : (cache : Cache)
+      → effect_to_go unit.node.chip cache (effect_of (instr_at unit.program unit.core.place) unit.core) ≡ access_to_go unit.node.chip cache (line_of access.address)
   done : IsDoneAt unit.program unit.core access.kind
 
 next_is : (unit : UnitState) → unit.node.side.misses.demand ≡ None
@@ -109,7 +114,8 @@ hit_steps unit access done cache kind tries =
     record { delivered = refl; falls = omega arith }
 
 -- it starts a demand
-demand_steps : (unit : UnitState) (access : Pending) (cache : Cache) → Tries unit access → per_request unit.node.chip < access_to_go unit.node.chip unit.node.side.cache (line_of access.address)
+demand_steps : (unit : UnitState) (access : Pending) (cache : Cache) → Tries unit access
+    → per_request unit.node.chip < access_to_go unit.node.chip unit.node.side.cache (line_of access.address)
     → Steps unit (performed unit (demand_started access (with_cache cache unit.node.side) unit.node)).0
 unfolding node_to_go
 demand_steps unit access cache tries cost =
@@ -133,8 +139,10 @@ when_some true o x is = (refl, is)
 when_some false o x is = cc
 
 -- it starts a write-back
-back_steps : (unit : UnitState) (access : Pending) (held : Held) → Tries unit access → lookup unit.node.chip unit.node.side.cache (line_of access.address) ≡ None
-    → has_room unit.node.chip unit.node.side.cache (line_of access.address) ≡ false → lowest_for unit.node.chip (line_of access.address) unit.node.side.cache ≡ Some held
+back_steps : (unit : UnitState) (access : Pending) (held : Held) → Tries unit access
+    → lookup unit.node.chip unit.node.side.cache (line_of access.address) ≡ None
+    → has_room unit.node.chip unit.node.side.cache (line_of access.address) ≡ false
+    → lowest_for unit.node.chip (line_of access.address) unit.node.side.cache ≡ Some held
     → (out : Performed) → back_started unit.node (Some held) ≡ Some out → Steps unit (performed unit out).0
 unfolding node_to_go
 back_steps unit access held tries absent full low out is =
@@ -169,12 +177,14 @@ misses_step unit access tries absent out = room_by (has_room unit.node.chip unit
     P : Performed → Type 0
     P out = Steps unit (performed unit out).0
 
-    victim_by : has_room unit.node.chip unit.node.side.cache (line_of access.address) ≡ false → (victim : Option Held) → lowest_for unit.node.chip (line_of access.address) unit.node.side.cache ≡ victim
+    victim_by : has_room unit.node.chip unit.node.side.cache (line_of access.address) ≡ false → (victim : Option Held)
+        → lowest_for unit.node.chip (line_of access.address) unit.node.side.cache ≡ victim
         → back_started unit.node victim ≡ Some out → P out
     victim_by full None low is = cc
     victim_by full (Some held) low is = back_steps unit access held tries absent full low out is
 
-    shared_by : has_room unit.node.chip unit.node.side.cache (line_of access.address) ≡ false → (shared : Option Cache) → victim_evicted access unit.node shared ≡ Some out → P out
+    shared_by : has_room unit.node.chip unit.node.side.cache (line_of access.address) ≡ false → (shared : Option Cache)
+        → victim_evicted access unit.node shared ≡ Some out → P out
     shared_by full (Some cache) is =
         let cost = access_full unit.node.chip unit.node.side.cache (line_of access.address) absent full in
         made P (demand_started access (with_cache cache unit.node.side) unit.node) out (demand_steps unit access cache tries (omega arith)) is
@@ -195,17 +205,20 @@ access_steps unit access tries out = by (lookup unit.node.chip unit.node.side.ca
     P : Performed → Type 0
     P out = Steps unit (performed unit out).0
 
-    hit : (held : Held) (cache : Cache) → P (record unit.node { side = with_cache cache unit.node.side }, Some (done_by access unit.node.delivered held.words))
+    hit : (held : Held) (cache : Cache)
+        → P (record unit.node { side = with_cache cache unit.node.side }, Some (done_by access unit.node.delivered held.words))
     hit held cache = hit_steps unit access (done_by access unit.node.delivered held.words) cache refl tries
 
     upgrades : (held : Held) → lookup unit.node.chip unit.node.side.cache (line_of access.address) ≡ Some held
-        → when (not (is_written_back (line_of access.address) unit.node.side.misses.back)) (Some (demand_started access unit.node.side unit.node)) ≡ Some out → P out
+        → when (not (is_written_back (line_of access.address) unit.node.side.misses.back)) (Some (demand_started access unit.node.side unit.node)) ≡ Some out
+        → P out
     upgrades held there is =
         let cost = access_here unit.node.chip unit.node.side.cache (line_of access.address) held there in
         made P (demand_started access unit.node.side unit.node) out (demand_steps unit access unit.node.side.cache tries (omega arith))
         (when_some (not (is_written_back (line_of access.address) unit.node.side.misses.back)) (Some (demand_started access unit.node.side unit.node)) out is).1
 
-    stores : (held : Held) (state : State) → lookup unit.node.chip unit.node.side.cache (line_of access.address) ≡ Some held → store_to access held unit.node state ≡ Some out → P out
+    stores : (held : Held) (state : State) → lookup unit.node.chip unit.node.side.cache (line_of access.address) ≡ Some held
+        → store_to access held unit.node state ≡ Some out → P out
     stores held M there is =
         made P (store_hit access held unit.node) out (hit held (installed unit.node.chip (record held { words = written_by access held.words }) unit.node.side.cache)) is
     stores held O there is = upgrades held there is
@@ -216,7 +229,8 @@ access_steps unit access tries out = by (lookup unit.node.chip unit.node.side.ca
     here held true there is = stores held held.state there is
     here held false there is = made P (load_hit access held unit.node) out (hit held unit.node.side.cache) is
 
-    by : (held : Option Held) → lookup unit.node.chip unit.node.side.cache (line_of access.address) ≡ held → accessed_with access unit.node held ≡ Some out → P out
+    by : (held : Option Held) → lookup unit.node.chip unit.node.side.cache (line_of access.address) ≡ held → accessed_with access unit.node held ≡ Some out
+        → P out
     by None absent is = misses_step unit access tries absent out (when_some (not (is_written_back (line_of access.address) unit.node.side.misses.back)) (missed access unit.node) out is).1
     by (Some held) there is = here held (writes access.kind) there is
 
@@ -236,7 +250,8 @@ choice false m n k first second = second
 one : (target : ℕ) → Contains (target ∷ []) target
 one target = (0, omega arith, refl)
 
-later_by : (instr : Instr) (core new : CoreState) → effect_of instr core ≡ Becomes new → ((target : ℕ) → Contains (targets instr) target → core.place < target) → core.place < new.place
+later_by : (instr : Instr) (core new : CoreState) → effect_of instr core ≡ Becomes new
+    → ((target : ℕ) → Contains (targets instr) target → core.place < target) → core.place < new.place
 later_by (Li rd n) core new is forward = let place = same_core _ new is in omega arith
 later_by (Add rd ra rb) core new is forward = let place = same_core _ new is in omega arith
 later_by (Sub rd ra rb) core new is forward = let place = same_core _ new is in omega arith
@@ -255,7 +270,8 @@ later_by (Jmp target) core new is forward = let place = same_core _ new is in le
 later_by (Tid rd) core new is forward = let place = same_core _ new is in omega arith
 later_by Halt core new is forward = cc
 
-goes_later : (program : List Instr) (core new : CoreState) → GoesForward program → effect_of (instr_at program core.place) core ≡ Becomes new → core.place < new.place
+goes_later : (program : List Instr) (core new : CoreState) → GoesForward program → effect_of (instr_at program core.place) core ≡ Becomes new
+    → core.place < new.place
 goes_later program core new forward = by (slice_get program core.place) refl
   where
     by : (o : Option Instr) → slice_get program core.place ≡ o → effect_of (unwrap_or o Halt) core ≡ Becomes new → core.place < new.place
@@ -312,8 +328,10 @@ core_steps unit acted may is =
         (λ out is. access_steps unit access tries out (when_some (not (has_entry unit.node)) (accessed_with access unit.node (lookup unit.node.chip unit.node.side.cache (line_of access.address))) out is).1) acted
 
     -- an access as the next instruction
-    as_next : (access : Pending) (effect : Effect) → unit.halted ≡ false → unit.node.side.misses.demand ≡ None → effect_of (instr_at unit.program unit.core.place) unit.core ≡ effect
-        → IsAccess unit.node.chip access effect → ((cache : Cache) → effect_to_go unit.node.chip cache effect ≡ access_to_go unit.node.chip cache (line_of access.address)) → Tries unit access
+    as_next : (access : Pending) (effect : Effect) → unit.halted ≡ false → unit.node.side.misses.demand ≡ None
+        → effect_of (instr_at unit.program unit.core.place) unit.core ≡ effect
+        → IsAccess unit.node.chip access effect
+        → ((cache : Cache) → effect_to_go unit.node.chip cache effect ≡ access_to_go unit.node.chip cache (line_of access.address)) → Tries unit access
     as_next access effect running demand is of costs = record {
       running = running;
       demand = demand;
@@ -322,7 +340,8 @@ core_steps unit acted may is =
       done = access_done unit.node.chip unit.program unit.core access (subst (IsAccess unit.node.chip access) (sym is) of);
     }
 
-    by : unit.halted ≡ false → unit.node.side.misses.demand ≡ None → (effect : Effect) → effect_of (instr_at unit.program unit.core.place) unit.core ≡ effect → executed unit effect ≡ Some acted → P acted
+    by : unit.halted ≡ false → unit.node.side.misses.demand ≡ None → (effect : Effect) → effect_of (instr_at unit.program unit.core.place) unit.core ≡ effect
+        → executed unit effect ≡ Some acted → P acted
     by running demand (Becomes core) effect is = made P (record unit { core = core }, None) acted (becomes_steps unit core running demand may.forward effect) is
     by running demand Halts effect is = made P (record unit { halted = true }, None) acted (halt_steps unit running) is
     by running demand (Loads register sum) effect is =

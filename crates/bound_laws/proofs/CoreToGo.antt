@@ -58,7 +58,8 @@ unfolding core_to_go
 core_runs chip unit running inside = rw (running, lt-ltb unit.core.place (length unit.program) inside) refl
 
 -- a core at a later place has no more to do than before, and less by what its next instruction still needed
-pub core_goes_on : (chip : Chip) (old new : UnitState) → old.halted ≡ false → new.program ≡ old.program → old.core.place < length old.program → old.core.place < new.core.place
+pub core_goes_on : (chip : Chip) (old new : UnitState) → old.halted ≡ false → new.program ≡ old.program → old.core.place < length old.program
+    → old.core.place < new.core.place
     → core_to_go chip new + next_to_go chip old ≤ core_to_go chip old
 unfolding core_to_go
 core_goes_on chip old new running program inside later =
@@ -83,7 +84,8 @@ pub record IsDoneAt (program : List Instr) (core : CoreState) (kind : AccessKind
   pub inside : core.place < length program
   pub place : (access : Access) → access.kind ≡ kind → (core_after program access core).place ≡ core.place + 1
 
-pub access_done : (chip : Chip) (program : List Instr) (core : CoreState) (pending : Pending) → IsAccess chip pending (effect_of (instr_at program core.place) core)
+pub access_done : (chip : Chip) (program : List Instr) (core : CoreState) (pending : Pending)
+    → IsAccess chip pending (effect_of (instr_at program core.place) core)
     → IsDoneAt program core pending.kind
 unfolding loaded
 access_done chip program core pending access = by (effect_of (instr_at program core.place) core) refl access
@@ -104,7 +106,8 @@ TakesAll chip old new = (line : ℕ) → fits chip old line ≡ true → fits ch
 access_mono : (chip : Chip) (old new : Cache) (line : ℕ) → TakesAll chip old new → access_to_go chip new line ≤ access_to_go chip old line
 access_mono chip old new line takes = by (fits chip old line) (fits chip new line) (takes line)
   where
-    by : (was is : Bool) → (was ≡ true → is ≡ true) → cond is (1 + per_request chip) (per_instruction chip) ≤ cond was (1 + per_request chip) (per_instruction chip)
+    by : (was is : Bool) → (was ≡ true → is ≡ true)
+        → cond is (1 + per_request chip) (per_instruction chip) ≤ cond was (1 + per_request chip) (per_instruction chip)
     by true true more = omega arith
     by true false more = let no = more refl in cc
     by false true more = omega arith
@@ -126,12 +129,13 @@ mono false true false rest less more le = omega arith
 mono false false waits rest less more le = omega arith
 
 -- a core whose demand stands as before has no more to do where the cache takes what it took
-pub core_side : (chip : Chip) (unit : UnitState) (side : CacheSide) → is_some side.misses.demand ≡ is_some unit.node.side.misses.demand → TakesAll chip unit.node.side.cache side.cache
+pub core_side : (chip : Chip) (unit : UnitState) (side : CacheSide) → is_some side.misses.demand ≡ is_some unit.node.side.misses.demand
+    → TakesAll chip unit.node.side.cache side.cache
     → core_to_go chip (record unit { node = with_side side unit.node }) ≤ core_to_go chip unit
 unfolding core_to_go
 core_side chip unit side same takes =
     let effect = effect_of (instr_at unit.program unit.core.place) unit.core in
     let rest = per_instruction chip * (length unit.program - unit.core.place - 1) in
     let less = mono unit.halted (nat_lt unit.core.place (length unit.program)) (is_some unit.node.side.misses.demand) rest (effect_to_go chip side.cache effect) (effect_to_go chip unit.node.side.cache effect)
-        (effect_mono chip unit.node.side.cache side.cache effect takes) in
+    (effect_mono chip unit.node.side.cache side.cache effect takes) in
     rw same less

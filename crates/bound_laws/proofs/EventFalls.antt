@@ -33,14 +33,14 @@ use Rattle.bound_laws.proofs.RequestSteps.{hop_lowers, inject_grows}
 use Rattle.bound_laws.proofs.MessageSteps.{sent_grows, forwarded_lowers}
 use Rattle.bound_laws.proofs.AnswerCounts.{answers_grow, answers_same}
 
-
 -- ---- steps of the ordered network alone
 pub network_falls : (chip : Chip) (s : ChipState) (net : OrderedNetwork) → Lowers chip s.network net → Falls chip s (with_network net s)
 network_falls chip s net step =
     let answers = answers_same chip s (with_network net s) step.ordered (λ t. refl) in
     let lowers = step.lowers in omega arith
 
-pub tick_falls : (chip : Chip) (s new : ChipState) → 0 < tile_count chip → WindowsFit chip s.network.windows → length s.network.interfaces ≡ tile_count chip → tick chip s ≡ Some new → Falls chip s new
+pub tick_falls : (chip : Chip) (s new : ChipState) → 0 < tile_count chip → WindowsFit chip s.network.windows → length s.network.interfaces ≡ tile_count chip
+    → tick chip s ≡ Some new → Falls chip s new
 tick_falls chip s new tiles fits interfaces = bind_eq (Falls chip s) (after_network_tick chip s.network) _
     (λ net ticks n is. made (Falls chip s) (with_network net s) n
     (let step = tick_lowers chip s.network net tiles fits interfaces ticks in
@@ -55,7 +55,8 @@ pub take_falls : (chip : Chip) (s new : ChipState) (t : ℕ) → take_vector s t
 take_falls chip s new t = bind_eq (Falls chip s) (after_vector_take s.network t) _
     (λ net takes n is. made (Falls chip s) (with_network net s) n (network_falls chip s net (take_lowers chip s.network net t takes)) is) new
 
-pub hop_falls : (chip : Chip) (s new : ChipState) (r : ℕ) (port : Port) (slot : ℕ) (out : Port) → HasTiles chip.grid → CopiesFit chip.grid s.network.copies → hop chip s r port slot out ≡ Some new → Falls chip s new
+pub hop_falls : (chip : Chip) (s new : ChipState) (r : ℕ) (port : Port) (slot : ℕ) (out : Port) → HasTiles chip.grid → CopiesFit chip.grid s.network.copies
+    → hop chip s r port slot out ≡ Some new → Falls chip s new
 hop_falls chip s new r port slot out some fits = bind_eq (Falls chip s) (after_copy_hop chip s.network r port slot out) _
     (λ net hops n is. made (Falls chip s) (record s { network = net; hops = s.hops + 1 }) n
     (let step = hop_lowers chip s.network net r port slot out some fits hops in
@@ -63,7 +64,8 @@ hop_falls chip s new r port slot out some fits = bind_eq (Falls chip s) (after_c
     let lowers = step.lowers in omega arith) is) new
 
 -- ---- the unit of one tile changes
-pub counts_set : (units : List UnitState) (tile : ℕ) (unit new : UnitState) → slice_get units tile ≡ Some unit → new.node.delivered ≡ unit.node.delivered → (t : ℕ) → count_of (slice_get (set units tile new) t) ≡ count_of (slice_get units t)
+pub counts_set : (units : List UnitState) (tile : ℕ) (unit new : UnitState) → slice_get units tile ≡ Some unit → new.node.delivered ≡ unit.node.delivered
+    → (t : ℕ) → count_of (slice_get (set units tile new) t) ≡ count_of (slice_get units t)
 counts_set units tile unit new there same t = ⊎_elim
     (λ (here : t ≡ tile).
     ap (λ (k : ℕ). count_of (slice_get (set units tile new) k)) here ∙ ap count_of (slice_get-set_same units tile new (slice_get_within units tile unit there)) ∙ same
@@ -81,26 +83,31 @@ marked : (chip : Chip) (misses : Misses) (asked : Kind × ℕ) → wanted misses
 unfolding wanted marked_sent
 marked chip misses asked = by misses.demand misses.back
   where
-    demand_by : (demand : Demand) (back : Option WriteBack) (sent : Bool) → demand.sent ≡ sent → when (not sent) (Some (demand.kind, demand.line)) ≡ Some asked
+    demand_by : (demand : Demand) (back : Option WriteBack) (sent : Bool) → demand.sent ≡ sent
+        → when (not sent) (Some (demand.kind, demand.line)) ≡ Some asked
         → IsMarked chip (record { demand = Some demand; back = back }) (record { demand = sent_demand (Some demand); back = back })
     demand_by demand back true is wants = cc
     demand_by demand back false is wants = record { unsent = rw is (omega arith); promises = λ g t. refl; waits = refl }
 
-    demand_is : (demand : Option Demand) (back : Option WriteBack) → wanted_by_demand demand ≡ Some asked → IsMarked chip (record { demand = demand; back = back }) (record { demand = sent_demand demand; back = back })
+    demand_is : (demand : Option Demand) (back : Option WriteBack) → wanted_by_demand demand ≡ Some asked
+        → IsMarked chip (record { demand = demand; back = back }) (record { demand = sent_demand demand; back = back })
     demand_is None back wants = cc
     demand_is (Some demand) back wants = demand_by demand back demand.sent refl wants
 
-    back_by : (demand : Option Demand) (back : WriteBack) (sent : Bool) → back.sent ≡ sent → cond {A = Option (Kind × ℕ)} sent (wanted_by_demand demand) (Some (PutM, back.line)) ≡ Some asked
+    back_by : (demand : Option Demand) (back : WriteBack) (sent : Bool) → back.sent ≡ sent
+        → cond {A = Option (Kind × ℕ)} sent (wanted_by_demand demand) (Some (PutM, back.line)) ≡ Some asked
         → IsMarked chip (record { demand = demand; back = Some back })
         (cond {A = Misses} sent (record { demand = sent_demand demand; back = Some back }) (record { demand = demand; back = Some (record back { sent = true }) }))
     back_by demand back true is wants = demand_is demand (Some back) wants
     back_by demand back false is wants = record { unsent = rw is (omega arith); promises = λ g t. refl; waits = refl }
 
-    by : (demand : Option Demand) (back : Option WriteBack) → wanted_by demand back ≡ Some asked → IsMarked chip (record { demand = demand; back = back }) (sent_by demand back)
+    by : (demand : Option Demand) (back : Option WriteBack) → wanted_by demand back ≡ Some asked
+        → IsMarked chip (record { demand = demand; back = back }) (sent_by demand back)
     by demand None wants = demand_is demand None wants
     by demand (Some back) wants = back_by demand back back.sent refl wants
 
-sent_falls : (chip : Chip) (unit : UnitState) (asked : Kind × ℕ) → wanted unit.node.side.misses ≡ Some asked → unit_to_go chip (record unit { node = after_request_sent unit.node }) + per_request chip ≤ unit_to_go chip unit
+sent_falls : (chip : Chip) (unit : UnitState) (asked : Kind × ℕ) → wanted unit.node.side.misses ≡ Some asked
+    → unit_to_go chip (record unit { node = after_request_sent unit.node }) + per_request chip ≤ unit_to_go chip unit
 unfolding after_request_sent node_to_go
 sent_falls chip unit asked wants =
     let mark = marked chip unit.node.side.misses asked wants in
@@ -113,7 +120,8 @@ same_delivered : (node : Node) → (after_request_sent node).delivered ≡ node.
 unfolding after_request_sent
 same_delivered node = refl
 
-pub inject_falls : (chip : Chip) (s new : ChipState) (tile : ℕ) → length s.network.interfaces ≡ tile_count chip → inject chip s tile ≡ Some new → Falls chip s new
+pub inject_falls : (chip : Chip) (s new : ChipState) (tile : ℕ) → length s.network.interfaces ≡ tile_count chip → inject chip s tile ≡ Some new
+    → Falls chip s new
 unfolding unit_at
 inject_falls chip s new tile interfaces =
     bind_eq (Falls chip s) (slice_get s.units tile) _
@@ -134,7 +142,8 @@ dropped : (f : Msg → ℕ) (out : List Msg) (msg : Msg) → slice_get out 0 ≡
 dropped f [] msg there = cc
 dropped f (first ∷ out) msg there = let same : first ≡ msg = cc in let weight = ap f same in omega (arith, sum_by-cons f first out)
 
-message_falls : (chip : Chip) (unit : UnitState) (msg : Msg) → slice_get unit.node.out 0 ≡ Some msg → unit_to_go chip (record unit { node = after_message_sent unit.node }) + (2 + distance chip.grid unit.node.tile msg.to) ≡ unit_to_go chip unit
+message_falls : (chip : Chip) (unit : UnitState) (msg : Msg) → slice_get unit.node.out 0 ≡ Some msg
+    → unit_to_go chip (record unit { node = after_message_sent unit.node }) + (2 + distance chip.grid unit.node.tile msg.to) ≡ unit_to_go chip unit
 unfolding after_message_sent node_to_go core_to_go
 message_falls chip unit msg there = let falls = dropped (λ (msg : Msg). 2 + distance chip.grid unit.node.tile msg.to) unit.node.out msg there in omega arith
 
@@ -162,7 +171,8 @@ send_falls chip s new tile own =
     let grows = sent_grows chip.grid s.replies replies tile msg sends in omega arith) is) n last) n last)
     new
 
-pub data_hop_falls : (chip : Chip) (s new : ChipState) (r : ℕ) (port : Port) (slot : ℕ) → HasTiles chip.grid → data_hop chip s r port slot ≡ Some new → Falls chip s new
+pub data_hop_falls : (chip : Chip) (s new : ChipState) (r : ℕ) (port : Port) (slot : ℕ) → HasTiles chip.grid → data_hop chip s r port slot ≡ Some new
+    → Falls chip s new
 data_hop_falls chip s new r port slot some = bind_eq (Falls chip s) (after_data_hop chip.grid s.replies r port slot) _
     (λ replies goes n is. made (Falls chip s) (record s { replies = replies }) n
     (let lowers = forwarded_lowers chip.grid s.replies replies r port slot some goes in

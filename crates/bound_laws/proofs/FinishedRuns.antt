@@ -34,7 +34,8 @@ full_finished d s count within same falls (inr some) =
     absurd (let less = falls next.0 some.event next.1 in omega arith)
 
 -- nothing is possible
-pub rest_finished : (b : Behaviour) (chip : Chip) (s : ChipState) → ((event : Event) → enabled b chip s event ≡ false) → (finished s ≡ true) ⊎ SomeIsEnabled b chip s → finished s ≡ true
+pub rest_finished : (b : Behaviour) (chip : Chip) (s : ChipState) → ((event : Event) → enabled b chip s event ≡ false)
+    → (finished s ≡ true) ⊎ SomeIsEnabled b chip s → finished s ≡ true
 rest_finished b chip s none (inl done) = done
 rest_finished b chip s none (inr some) = let both : true ≡ false = sym some.possible ∙ none some.event in cc
 

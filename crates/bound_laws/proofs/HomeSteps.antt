@@ -36,7 +36,8 @@ home_price chip PutM = 0
 abbrev AnswerGrows : Chip → ℕ → LineRecord → Answer → ℕ → Type 0
 AnswerGrows chip t r answer more = promises_to_go chip.grid t answer.left.waiters + sends_to_go chip.grid t answer.sends ≤ promises_to_go chip.grid t r.waiters + more
 
-memory_answers : (chip : Chip) (t : ℕ) (q : Request) (r : LineRecord) (kind : Kind) → Asks chip t q → AnswerGrows chip t r (from_memory q r kind) (home_price chip kind)
+memory_answers : (chip : Chip) (t : ℕ) (q : Request) (r : LineRecord) (kind : Kind) → Asks chip t q
+    → AnswerGrows chip t r (from_memory q r kind) (home_price chip kind)
 memory_answers chip t q r GetS asks = let far = near chip t q.source asks.tiles asks.tile asks.source in omega arith
 memory_answers chip t q r GetM asks = let far = near chip t q.source asks.tiles asks.tile asks.source in omega arith
 memory_answers chip t q r PutM asks = omega arith
@@ -48,7 +49,8 @@ one_more chip t q r asks =
     let far = near chip t q.source asks.tiles asks.tile asks.source in
     omega (arith, sum_by_push (λ (waiting : Waiting). 2 + distance chip.grid t waiting.tile) r.waiters waiting)
 
-waiting_answers : (chip : Chip) (t : ℕ) (q : Request) (r : LineRecord) (kind : Kind) → Asks chip t q → AnswerGrows chip t r (awaiting_write_back q r kind) (home_price chip kind)
+waiting_answers : (chip : Chip) (t : ℕ) (q : Request) (r : LineRecord) (kind : Kind) → Asks chip t q
+    → AnswerGrows chip t r (awaiting_write_back q r kind) (home_price chip kind)
 waiting_answers chip t q r GetS asks = let more = one_more chip t q r asks in omega arith
 waiting_answers chip t q r GetM asks = let more = one_more chip t q r asks in omega arith
 waiting_answers chip t q r PutM asks = omega arith
@@ -76,7 +78,8 @@ pub request_at_home : (chip : Chip) (t : ℕ) (q : Request) (records : Records) 
 unfolding answered
 request_at_home chip t q records tiles tile source = by (slice_index_or records q.line None) refl
   where
-    by : (found : Option LineRecord) → slice_index_or records q.line None ≡ found → HomeGrows chip.grid t records (answered_at q records found) (cond (is_from_memory found) (home_price chip q.kind) 0)
+    by : (found : Option LineRecord) → slice_index_or records q.line None ≡ found
+        → HomeGrows chip.grid t records (answered_at q records found) (cond (is_from_memory found) (home_price chip q.kind) 0)
     by None is = omega arith
     by (Some r) is =
         let answer = answered_by q r r.owner in

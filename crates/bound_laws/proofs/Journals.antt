@@ -53,7 +53,8 @@ step_journal b chip s new (DataEject r port slot) = bind_eq (Same s) (after_data
     (λ unit there n is. made (Same s) (with_acted r (b.received out.0 unit) (record s { replies = out.1 })) n refl is) n last) new
 
 -- a run, and one event more
-pub run_more : (b : Behaviour) (chip : Chip) (events : List Event) (s mid new : ChipState) (event : Event) → run b chip s events ≡ Some mid → after b chip mid event ≡ Some new
+pub run_more : (b : Behaviour) (chip : Chip) (events : List Event) (s mid new : ChipState) (event : Event) → run b chip s events ≡ Some mid
+    → after b chip mid event ≡ Some new
     → run b chip s (events ++ event ∷ []) ≡ Some new
 unfolding run
 run_more b chip [] s mid new event goes steps =
@@ -64,12 +65,14 @@ run_more b chip (first ∷ events) s mid new event goes steps =
     rw begins (run_more b chip events next mid new event rest steps))
 
 -- an event after a step
-pub after_is : (b : Behaviour) (chip : Chip) (s left : ChipState) (event : Event) → step b chip s event ≡ Some left → after b chip s event ≡ Some (noted event left)
+pub after_is : (b : Behaviour) (chip : Chip) (s left : ChipState) (event : Event) → step b chip s event ≡ Some left
+    → after b chip s event ≡ Some (noted event left)
 unfolding after
 after_is b chip s left event is = rw is refl
 
 -- a state that is reached leads to states that are
-pub reached_next : (b : Behaviour) (d : Doc) (s left : ChipState) (event : Event) → IsReachable b d s → step b (chip_of d) s event ≡ Some left → IsReachable b d (noted event left)
+pub reached_next : (b : Behaviour) (d : Doc) (s left : ChipState) (event : Event) → IsReachable b d s → step b (chip_of d) s event ≡ Some left
+    → IsReachable b d (noted event left)
 reached_next b d s left event reached is =
     let same = step_journal b (chip_of d) s left event is in
     ap (λ (events : List Event). run b (chip_of d) (opening d) (events ++ event ∷ [])) same

@@ -21,13 +21,15 @@ use Rattle.net_iface.proofs.Binds.{bind_eq, made}
 use Rattle.bound_laws.specs.Measure.{reply_weight, replies_to_go}
 
 -- a packet comes to a free channel
-weigh-come : (f : ℕ → ℕ → ℕ → Msg → ℕ) (net : Network Msg) (r p slot : ℕ) (msg : Msg) → IsFree (channels_of net r) p slot → weigh f (put net r p slot (Some msg)) ≡ weigh f net + f r p slot msg
+weigh-come : (f : ℕ → ℕ → ℕ → Msg → ℕ) (net : Network Msg) (r p slot : ℕ) (msg : Msg) → IsFree (channels_of net r) p slot
+    → weigh f (put net r p slot (Some msg)) ≡ weigh f net + f r p slot msg
 weigh-come f net r p slot msg free =
     let change : weigh f (put net r p slot (Some msg)) + 0 ≡ weigh f net + f r p slot msg =
     subst (λ (was : Option Msg). weigh f (put net r p slot (Some msg)) + weight (f r p slot) was ≡ weigh f net + f r p slot msg) (free_none net r p slot free) (weigh-put f net r p slot (Some msg) (free_place net r p slot free)) in
     omega arith
 
-pub sent_grows : (g : Grid) (net new : Network Msg) (r : ℕ) (msg : Msg) → after_send net r msg ≡ Some new → replies_to_go g new ≡ replies_to_go g net + 1 + distance g r msg.to
+pub sent_grows : (g : Grid) (net new : Network Msg) (r : ℕ) (msg : Msg) → after_send net r msg ≡ Some new
+    → replies_to_go g new ≡ replies_to_go g net + 1 + distance g r msg.to
 unfolding after_send replies_to_go
 sent_grows g net new r msg =
     bind_eq P (lowest_free (channels_of net r) (port_number L)) _
@@ -38,7 +40,8 @@ sent_grows g net new r msg =
     P : Network Msg → Type 0
     P new = weigh (reply_weight g) new ≡ weigh (reply_weight g) net + 1 + distance g r msg.to
 
-pub forwarded_lowers : (g : Grid) (net new : Network Msg) (r : ℕ) (port : Port) (slot : ℕ) → HasTiles g → after_data_hop g net r port slot ≡ Some new → replies_to_go g new < replies_to_go g net
+pub forwarded_lowers : (g : Grid) (net new : Network Msg) (r : ℕ) (port : Port) (slot : ℕ) → HasTiles g → after_data_hop g net r port slot ≡ Some new
+    → replies_to_go g new < replies_to_go g net
 unfolding after_data_hop replies_to_go
 forwarded_lowers g net new r port slot some =
     bind_eq P (at net r (port_number port) slot) _
@@ -49,7 +52,8 @@ forwarded_lowers g net new r port slot some =
     P : Network Msg → Type 0
     P new = weigh (reply_weight g) new < weigh (reply_weight g) net
 
-    lowers : (msg : Msg) (next : Channel) → at net r (port_number port) slot ≡ Some msg → IsNext g net r msg next → P (put (put net r (port_number port) slot None) next.router (port_number next.port) next.slot (Some msg))
+    lowers : (msg : Msg) (next : Channel) → at net r (port_number port) slot ≡ Some msg → IsNext g net r msg next
+        → P (put (put net r (port_number port) slot None) next.router (port_number next.port) next.slot (Some msg))
     lowers msg next stands is =
         let mid = put net r (port_number port) slot None in
         let goes = weigh_at (reply_weight g) net r (port_number port) slot msg stands in
@@ -59,7 +63,8 @@ forwarded_lowers g net new r port slot some =
         let nearer = hop_nearer g r msg.to next.router some is.near in
         omega arith
 
-pub received_lowers : (g : Grid) (net : Network Msg) (r : ℕ) (port : Port) (slot : ℕ) (out : Msg × Network Msg) → after_data_eject net r port slot ≡ Some out → replies_to_go g out.1 < replies_to_go g net
+pub received_lowers : (g : Grid) (net : Network Msg) (r : ℕ) (port : Port) (slot : ℕ) (out : Msg × Network Msg) → after_data_eject net r port slot ≡ Some out
+    → replies_to_go g out.1 < replies_to_go g net
 unfolding after_data_eject replies_to_go
 received_lowers g net r port slot out =
     bind_eq P (at net r (port_number port) slot) _

@@ -39,7 +39,8 @@ sum_nothing f [] none = refl
 sum_nothing f (x ∷ xs) none = let rest = sum_nothing f xs none in let first = none x in omega (arith, sum_by-cons f x xs)
 
 -- where each part is at most a price for each of some and one more, so is the sum
-sum_priced : {X : Type 0} (f h : X → ℕ) (price : ℕ) (xs : List X) → ((x : X) → f x ≤ price * h x + price) → sum_by f xs ≤ price * sum_by h xs + price * length xs
+sum_priced : {X : Type 0} (f h : X → ℕ) (price : ℕ) (xs : List X) → ((x : X) → f x ≤ price * h x + price)
+    → sum_by f xs ≤ price * sum_by h xs + price * length xs
 sum_priced f h price [] each = omega arith
 sum_priced f h price (x ∷ xs) each =
     let rest = sum_priced f h price xs each in
@@ -52,7 +53,8 @@ length-upwards first zero = refl
 length-upwards first (suc count) = let rest = length-upwards (first + 1) count in omega arith
 
 -- the items at some numbers weigh no more than all
-shifted : {X : Type 0} (g : X → ℕ) (x d : X) (xs : List X) (first count : ℕ) → sum_by (λ t. g (get_or (x ∷ xs) t d)) (upwards (suc first) count) ≡ sum_by (λ t. g (get_or xs t d)) (upwards first count)
+shifted : {X : Type 0} (g : X → ℕ) (x d : X) (xs : List X) (first count : ℕ)
+    → sum_by (λ t. g (get_or (x ∷ xs) t d)) (upwards (suc first) count) ≡ sum_by (λ t. g (get_or xs t d)) (upwards first count)
 shifted g x d xs first zero = refl
 shifted g x d xs first (suc count) =
     let next : suc first + 1 ≡ suc (first + 1) = omega arith in
@@ -106,7 +108,8 @@ no_promises chip memory tile line = by (home chip line == tile)
     by true = refl
     by false = refl
 
-unit_opens : (chip : Chip) (tile : ℕ) (program : List Instr) (memory : List ℕ) → unit_to_go chip (opening_unit chip tile program memory) ≤ per_instruction chip * length program + per_instruction chip
+unit_opens : (chip : Chip) (tile : ℕ) (program : List Instr) (memory : List ℕ)
+    → unit_to_go chip (opening_unit chip tile program memory) ≤ per_instruction chip * length program + per_instruction chip
 unfolding node_to_go core_to_go
 unit_opens chip tile program memory =
     let unit = opening_unit chip tile program memory in

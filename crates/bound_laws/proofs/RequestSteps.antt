@@ -41,7 +41,8 @@ use Rattle.bound_laws.proofs.Sums.{counts_one, cond_le, sum_same, sum_ones}
 abbrev to_each : Grid → ℕ → ℕ → List ℕ → Port → ℕ
 to_each g s r tiles out = count_by (λ tile. covers g s r tile out) tiles
 
-ways_to_all : (g : Grid) (s r : ℕ) (list : List ℕ) → sum_by (outputs_to g s r) list ≡ to_each g s r list L + to_each g s r list E + to_each g s r list W + to_each g s r list N + to_each g s r list S
+ways_to_all : (g : Grid) (s r : ℕ) (list : List ℕ)
+    → sum_by (outputs_to g s r) list ≡ to_each g s r list L + to_each g s r list E + to_each g s r list W + to_each g s r list N + to_each g s r list S
 ways_to_all g s r [] = refl
 ways_to_all g s r (tile ∷ list) =
     let rest = ways_to_all g s r list in
@@ -55,7 +56,8 @@ present : (t first count : ℕ) → first ≤ t → t < first + count → 0 < co
 present t first zero from to = absurd (omega arith)
 present t first (suc count) from to = by (t == first) refl (λ later. present t (first + 1) count later (omega arith))
   where
-    by : (here : Bool) → (t == first) ≡ here → (first + 1 ≤ t → 0 < count_by (λ s. t == s) (upwards (first + 1) count)) → 0 < count_by (λ s. t == s) (upwards first (suc count))
+    by : (here : Bool) → (t == first) ≡ here → (first + 1 ≤ t → 0 < count_by (λ s. t == s) (upwards (first + 1) count))
+        → 0 < count_by (λ s. t == s) (upwards first (suc count))
     by true is rest = let all = sum_by-cons (λ s. cond (t == s) 1 0) first (upwards (first + 1) count) in let here = counts_one (t == first) is in omega arith
     by false is rest = let all = sum_by-cons (λ s. cond (t == s) 1 0) first (upwards (first + 1) count) in let more = rest (grind arith) in omega arith
 
@@ -83,7 +85,8 @@ hops_in g r s ports = cond (has ports E) (behind g s r E) 0 + cond (has ports W)
 hops_owing : (g : Grid) (r p slot : ℕ) (q : Request) (owed : ℕ) → weight (hop_weight g r p slot) (copy_owing q owed) ≡ hops_in g r q.source owed
 hops_owing g r p slot q owed = by owed (owed == 0) refl
   where
-    by : (owed : ℕ) (none : Bool) → (owed == 0) ≡ none → weight (hop_weight g r p slot) (if none then None else Some (record { request = q; owed = ports_of owed })) ≡ hops_in g r q.source owed
+    by : (owed : ℕ) (none : Bool) → (owed == 0) ≡ none
+        → weight (hop_weight g r p slot) (if none then None else Some (record { request = q; owed = ports_of owed })) ≡ hops_in g r q.source owed
     by owed true is = let zero : owed ≡ 0 = grind arith in rw (zero, has-empty E, has-empty W, has-empty N, has-empty S) refl
     by owed false is = refl
 
@@ -103,7 +106,8 @@ by_side g s r W = behind g s r W
 by_side g s r N = behind g s r N
 by_side g s r S = behind g s r S
 
-hops_without : (g : Grid) (r s ports : ℕ) (out : Port) → ports < 32 → has ports out ≡ true → hops_in g r s ports ≡ hops_in g r s (without_port ports out) + by_side g s r out
+hops_without : (g : Grid) (r s ports : ℕ) (out : Port) → ports < 32 → has ports out ≡ true
+    → hops_in g r s ports ≡ hops_in g r s (without_port ports out) + by_side g s r out
 hops_without g r s ports L below owed = rw (has-without_port ports E L, has-without_port ports W L, has-without_port ports N L, has-without_port ports S L) (omega (arith, keeps, loses))
 hops_without g r s ports E below owed = rw (has-without_port ports E E, has-without_port ports W E, has-without_port ports N E, has-without_port ports S E, owed) (omega (arith, keeps, loses))
 hops_without g r s ports W below owed = rw (has-without_port ports E W, has-without_port ports W W, has-without_port ports N W, has-without_port ports S W, owed) (omega (arith, keeps, loses))
@@ -128,7 +132,8 @@ record IsHop (g : Grid) (net new : Network NetCopy) (r : ℕ) (port : Port) (slo
   free : IsFree (channels_of net to) (port_number (opposite out)) entry
   is : put (put net r (port_number port) slot (left_by out copy)) to (port_number (opposite out)) entry (Some (arriving g to copy.request)) ≡ new
 
-hop_is : (g : Grid) (net new : Network NetCopy) (r : ℕ) (port : Port) (slot : ℕ) (out : Port) (expected : Option Name) → after_hop g net r port slot out expected ≡ Some new → IsHop g net new r port slot out
+hop_is : (g : Grid) (net new : Network NetCopy) (r : ℕ) (port : Port) (slot : ℕ) (out : Port) (expected : Option Name)
+    → after_hop g net r port slot out expected ≡ Some new → IsHop g net new r port slot out
 unfolding after_hop
 hop_is g net new r port slot out expected =
     bind_eq P (at net r (port_number port) slot) _ (λ copy stands n last. owing copy stands (owes copy out) refl n last) new
@@ -162,7 +167,8 @@ side_behind g s r to W near = refl
 side_behind g s r to N near = refl
 side_behind g s r to S near = refl
 
-pub hopped_lowers : (g : Grid) (net new : Network NetCopy) (r : ℕ) (port : Port) (slot : ℕ) (out : Port) (expected : Option Name) → HasTiles g → CopiesFit g net → after_hop g net r port slot out expected ≡ Some new
+pub hopped_lowers : (g : Grid) (net new : Network NetCopy) (r : ℕ) (port : Port) (slot : ℕ) (out : Port) (expected : Option Name) → HasTiles g
+    → CopiesFit g net → after_hop g net r port slot out expected ≡ Some new
     → hops_to_go g new < hops_to_go g net
 hopped_lowers g net new r port slot out expected some fits hops =
     let hop = hop_is g net new r port slot out expected hops in
@@ -180,7 +186,8 @@ hopped_lowers g net new r port slot out expected some fits hops =
     let few = hops_le g hop.to come in
     subst (λ (new : Network NetCopy). hops_to_go g new < hops_to_go g net) hop.is (omega arith)
 
-pub hop_lowers : (chip : Chip) (net new : OrderedNetwork) (r : ℕ) (port : Port) (slot : ℕ) (out : Port) → HasTiles chip.grid → CopiesFit chip.grid net.copies → after_copy_hop chip net r port slot out ≡ Some new → Lowers chip net new
+pub hop_lowers : (chip : Chip) (net new : OrderedNetwork) (r : ℕ) (port : Port) (slot : ℕ) (out : Port) → HasTiles chip.grid → CopiesFit chip.grid net.copies
+    → after_copy_hop chip net r port slot out ≡ Some new → Lowers chip net new
 unfolding after_copy_hop requests_to_go
 hop_lowers chip net new r port slot out some fits =
     bind_eq (Lowers chip net) (after_hop chip.grid net.copies r port slot out (expected_at_next_hop chip net r out)) _
@@ -198,7 +205,8 @@ source_hops g q inside =
     let few = hops_le g q.source (arriving g q.source q) in
     omega arith
 
-entered_grows : (g : Grid) (net new : Network NetCopy) (q : Request) → q.source < tiles g → after_entry g net q ≡ Some new → hops_to_go g new < hops_to_go g net + tiles g
+entered_grows : (g : Grid) (net new : Network NetCopy) (q : Request) → q.source < tiles g → after_entry g net q ≡ Some new
+    → hops_to_go g new < hops_to_go g net + tiles g
 unfolding after_entry
 entered_grows g net new q inside =
     bind_eq P (lowest_free (channels_of net q.source) (port_number L)) _
@@ -210,7 +218,8 @@ entered_grows g net new q inside =
     P : Network NetCopy → Type 0
     P new = hops_to_go g new < hops_to_go g net + tiles g
 
-pub inject_grows : (chip : Chip) (net new : OrderedNetwork) (t : ℕ) (kind : Kind) (line : ℕ) → length net.interfaces ≡ tile_count chip → after_inject chip net t kind line ≡ Some new → MakesFor chip net new
+pub inject_grows : (chip : Chip) (net new : OrderedNetwork) (t : ℕ) (kind : Kind) (line : ℕ) → length net.interfaces ≡ tile_count chip
+    → after_inject chip net t kind line ≡ Some new → MakesFor chip net new
 unfolding after_inject requests_to_go
 inject_grows chip net new t kind line interfaces =
     bind_eq (MakesFor chip net) (slice_get net.interfaces t) _
@@ -221,7 +230,8 @@ inject_grows chip net new t kind line interfaces =
     made_more : Interface → Interface
     made_more interface = record interface { made = interface.made ++ next_request t interface kind line ∷ [] }
 
-    grows : (interface : Interface) (copies : Network NetCopy) → slice_get net.interfaces t ≡ Some interface → after_entry chip.grid net.copies (next_request t interface kind line) ≡ Some copies
+    grows : (interface : Interface) (copies : Network NetCopy) → slice_get net.interfaces t ≡ Some interface
+        → after_entry chip.grid net.copies (next_request t interface kind line) ≡ Some copies
         → requests_to_go chip (with_interface (record net { copies = copies }) t (made_more interface)) < requests_to_go chip net + per_request chip
     grows interface copies there enters =
         let more = made_more interface in
@@ -237,7 +247,8 @@ inject_grows chip net new t kind line interfaces =
         one_longer b a p longer = omega arith
 
 -- ---- a delivery
-served_same : (g : Grid) (net : Network NetCopy) (t : ℕ) (name : Name) (out : Request × Network NetCopy) → CopiesFit g net → after_serve net t name ≡ Some out → hops_to_go g out.1 ≡ hops_to_go g net
+served_same : (g : Grid) (net : Network NetCopy) (t : ℕ) (name : Name) (out : Request × Network NetCopy) → CopiesFit g net → after_serve net t name ≡ Some out
+    → hops_to_go g out.1 ≡ hops_to_go g net
 unfolding after_serve
 served_same g net t name out fits =
     bind_eq P (local_place net t name) _
@@ -248,7 +259,8 @@ served_same g net t name out fits =
     P : Request × Network NetCopy → Type 0
     P out = hops_to_go g out.1 ≡ hops_to_go g net
 
-    same : (place : ℕ × ℕ) (copy : NetCopy) → local_place net t name ≡ Some place → at net t place.0 place.1 ≡ Some copy → hops_to_go g (put net t place.0 place.1 (left_by L copy)) ≡ hops_to_go g net
+    same : (place : ℕ × ℕ) (copy : NetCopy) → local_place net t name ≡ Some place → at net t place.0 place.1 ≡ Some copy
+        → hops_to_go g (put net t place.0 place.1 (left_by L copy)) ≡ hops_to_go g net
     same place copy found stands =
         let local = local_stands net t name place.0 place.1 found in
         let one : local.0 ≡ copy = let both : ◌≡◌ {A = Option NetCopy} (Some local.0) (Some copy) = sym local.1 ∙ stands in cc in
@@ -257,7 +269,8 @@ served_same g net t name out fits =
         let leaves = weigh-leave (hop_weight g) net t place.0 place.1 copy (left_by L copy) 0 stands (hops_left g t place.0 place.1 L copy on.ports owed) in
         omega arith
 
-pub delivery_lowers : (chip : Chip) (net : OrderedNetwork) (t : ℕ) (out : Request × OrderedNetwork) → ((interface : Interface) → slice_get net.interfaces t ≡ Some interface → interface.delivered < length net.ordered) → CopiesFit chip.grid net.copies
+pub delivery_lowers : (chip : Chip) (net : OrderedNetwork) (t : ℕ) (out : Request × OrderedNetwork)
+    → ((interface : Interface) → slice_get net.interfaces t ≡ Some interface → interface.delivered < length net.ordered) → CopiesFit chip.grid net.copies
     → after_delivery chip net t ≡ Some out → Lowers chip net out.1
 unfolding after_delivery requests_to_go
 delivery_lowers chip net t out within fits =

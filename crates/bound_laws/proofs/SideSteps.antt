@@ -109,14 +109,16 @@ completes unit demand place words waits stands =
     done : Done
     done = done_by demand.pending (place + 1) words
 
-    goes_on : (after : CacheSide) → core_to_go chip (unit_with unit (record { side = after; sends = []; done = Some done })) + next_to_go chip unit ≤ core_to_go chip unit
+    goes_on : (after : CacheSide)
+        → core_to_go chip (unit_with unit (record { side = after; sends = []; done = Some done })) + next_to_go chip unit ≤ core_to_go chip unit
     goes_on after =
         let known = waits demand stands in
         let at = access_done chip unit.program unit.core demand.pending known.access in
         core_goes_on chip unit (unit_with unit (record { side = after; sends = []; done = Some done })) known.running refl at.inside (let moved = at.place (access_of unit done) refl in omega arith)
 
 -- the demand becomes another one, for which at most so much more is to be sent
-demand_changes : (unit : UnitState) (old new : Demand) (cache : Cache) (more : ℕ) → unit.node.side.misses.demand ≡ Some old → TakesAll unit.node.chip unit.node.side.cache cache
+demand_changes : (unit : UnitState) (old new : Demand) (cache : Cache) (more : ℕ) → unit.node.side.misses.demand ≡ Some old
+    → TakesAll unit.node.chip unit.node.side.cache cache
     → new.sent ≡ old.sent → promises_to_go unit.node.chip.grid unit.node.tile new.list ≤ promises_to_go unit.node.chip.grid unit.node.tile old.list + more
     → SideGrows unit (quiet (with_demand (Some new) (with_cache cache unit.node.side))) more
 demand_changes unit old new cache more stands takes sent promised =
@@ -130,7 +132,8 @@ pub words_come : (unit : UnitState) (words : List ℕ) → Waits unit → SideGr
 unfolding after_data
 words_come unit words waits = by unit.node.side.misses.demand refl
   where
-    at : (demand : Demand) (ordered : Option ℕ) → unit.node.side.misses.demand ≡ Some demand → SideGrows unit (data_at unit.node.chip unit.node.side words demand ordered) 0
+    at : (demand : Demand) (ordered : Option ℕ) → unit.node.side.misses.demand ≡ Some demand
+        → SideGrows unit (data_at unit.node.chip unit.node.side words demand ordered) 0
     at demand (Some place) stands = completes unit demand place words waits stands
     at demand None stands = demand_changes unit demand (record demand { early = Some words }) unit.node.side.cache 0 stands (λ line fits. fits) refl (omega arith)
 
@@ -142,7 +145,8 @@ words_come unit words waits = by unit.node.side.misses.demand refl
 own_get_comes : (unit : UnitState) (place : ℕ) → Waits unit → SideGrows unit (own_get unit.node.chip unit.node.side place unit.node.side.misses.demand) 0
 own_get_comes unit place waits = by unit.node.side.misses.demand refl
   where
-    ordered : (demand : Demand) (words : Option (List ℕ)) → unit.node.side.misses.demand ≡ Some demand → SideGrows unit (ordered_with unit.node.chip unit.node.side place demand words) 0
+    ordered : (demand : Demand) (words : Option (List ℕ)) → unit.node.side.misses.demand ≡ Some demand
+        → SideGrows unit (ordered_with unit.node.chip unit.node.side place demand words) 0
     ordered demand (Some words) stands = completes unit demand place words waits stands
     ordered demand None stands = demand_changes unit demand (record demand { ordered = Some place }) unit.node.side.cache 0 stands (λ line fits. fits) refl (omega arith)
 
@@ -190,8 +194,10 @@ supplies_costs unit q words side inside source unsent demand takes =
     omega arith)
 
 -- the tile that asked waits for the demand
-listed_costs : (unit : UnitState) (q : Request) (demand : Demand) (cache : Cache) → IsInside unit → q.source < tile_count unit.node.chip → unit.node.side.misses.demand ≡ Some demand
-    → TakesAll unit.node.chip unit.node.side.cache cache → SideGrows unit (quiet (deferred_to_demand q demand (with_cache cache unit.node.side))) (per_answer unit.node.chip)
+listed_costs : (unit : UnitState) (q : Request) (demand : Demand) (cache : Cache) → IsInside unit → q.source < tile_count unit.node.chip
+    → unit.node.side.misses.demand ≡ Some demand
+    → TakesAll unit.node.chip unit.node.side.cache cache
+    → SideGrows unit (quiet (deferred_to_demand q demand (with_cache cache unit.node.side))) (per_answer unit.node.chip)
 listed_costs unit q demand cache inside source stands takes =
     let waiting : Waiting = record { tile = q.source; kind = q.kind } in
     demand_changes unit demand (record demand { list = demand.list ++ waiting ∷ [] }) cache (per_answer unit.node.chip) stands takes refl
@@ -199,7 +205,8 @@ listed_costs unit q demand cache inside source stands takes =
     omega (arith, sum_by_push (λ (waiting : Waiting). 2 + distance unit.node.chip.grid unit.node.tile waiting.tile) demand.list waiting))
 
 -- nothing is sent, and the cache takes what it took
-nothing_costs : (unit : UnitState) (cache : Cache) → TakesAll unit.node.chip unit.node.side.cache cache → SideGrows unit (quiet (with_cache cache unit.node.side)) 0
+nothing_costs : (unit : UnitState) (cache : Cache) → TakesAll unit.node.chip unit.node.side.cache cache
+    → SideGrows unit (quiet (with_cache cache unit.node.side)) 0
 nothing_costs unit cache takes = side_stays unit (with_cache cache unit.node.side) [] 0 refl takes (omega arith)
 
 stale_unsent : (chip : Chip) (entry : Option WriteBack) → unsent_back chip (stale_back entry) ≡ unsent_back chip entry
@@ -210,7 +217,8 @@ stale_unsent chip (Some back) = refl
 abbrev HeldGrows : UnitState → Request → Kind → Holding → Type 0
 HeldGrows unit q kind h = SideGrows unit (snooped_with unit.node.chip q unit.node.side h kind) (cond (is_owned_holding h) (per_answer unit.node.chip) 0)
 
-read_comes : (unit : UnitState) (q : Request) → IsInside unit → q.source < tile_count unit.node.chip → HeldGrows unit q GetS (holding unit.node.chip unit.node.side q.line)
+read_comes : (unit : UnitState) (q : Request) → IsInside unit → q.source < tile_count unit.node.chip
+    → HeldGrows unit q GetS (holding unit.node.chip unit.node.side q.line)
 read_comes unit q inside source = holding_forms chip side q.line (HeldGrows unit q GetS) (record {
   owned = λ held there owned. supplies_costs unit q held.words (made_owned chip q.line held.words side) inside source refl refl
       (λ line. fits-installed chip side.cache (record { line = q.line; state = O; words = held.words }) line (ap is_some there));
@@ -228,7 +236,8 @@ read_comes unit q inside source = holding_forms chip side q.line (HeldGrows unit
     side : CacheSide
     side = unit.node.side
 
-write_comes : (unit : UnitState) (q : Request) → IsInside unit → q.source < tile_count unit.node.chip → HeldGrows unit q GetM (holding unit.node.chip unit.node.side q.line)
+write_comes : (unit : UnitState) (q : Request) → IsInside unit → q.source < tile_count unit.node.chip
+    → HeldGrows unit q GetM (holding unit.node.chip unit.node.side q.line)
 write_comes unit q inside source = holding_forms chip side q.line (HeldGrows unit q GetM) (record {
   owned = λ held there owned. supplies_costs unit q held.words (line_gone chip q.line side) inside source refl refl (fits-without_line chip side.cache q.line);
   live = λ copy back is. supplies_costs unit q back.words (made_stale side) inside source (ap (λ (n : ℕ). unsent_demand chip side.misses.demand + n) (stale_unsent chip side.misses.back)) refl
@@ -273,7 +282,8 @@ live_owns true false c n = omega arith
 live_owns false true c n = omega arith
 live_owns false false c n = omega arith
 
-live_price : (unit : UnitState) (line : ℕ) → cond (is_live_back line unit.node.side.misses.back) (per_answer unit.node.chip) 0 ≤ cond (owns unit.node.chip unit.node.side line) (per_answer unit.node.chip) 0
+live_price : (unit : UnitState) (line : ℕ)
+    → cond (is_live_back line unit.node.side.misses.back) (per_answer unit.node.chip) 0 ≤ cond (owns unit.node.chip unit.node.side line) (per_answer unit.node.chip) 0
 unfolding owns
 live_price unit line =
     live_owns (is_owned_copy (lookup unit.node.chip unit.node.side.cache line)) (is_live_back line unit.node.side.misses.back) (is_open_write line unit.node.side.misses.demand) (per_answer unit.node.chip)
@@ -281,7 +291,8 @@ live_price unit line =
 nothing_le : (b : Bool) (n : ℕ) → 0 ≤ cond b n 0
 nothing_le b n = omega arith
 
-own_comes : (unit : UnitState) (place : ℕ) (q : Request) (kind : Kind) → IsInside unit → Waits unit → (q.source == unit.node.tile) ≡ true → MeetsOwn unit.node.side q kind
+own_comes : (unit : UnitState) (place : ℕ) (q : Request) (kind : Kind) → IsInside unit → Waits unit → (q.source == unit.node.tile) ≡ true
+    → MeetsOwn unit.node.side q kind
     → SideGrows unit (own_request unit.node.chip unit.node.side place kind) (side_more unit q kind)
 own_comes unit place q GetS inside waits own meets = more_too unit _ 0 (side_more unit q GetS) (omega arith) (own_get_comes unit place waits)
 own_comes unit place q GetM inside waits own meets = more_too unit _ 0 (side_more unit q GetM) (omega arith) (own_get_comes unit place waits)
@@ -301,7 +312,8 @@ other_comes unit q GetM inside source =
 other_comes unit q PutM inside source = more_too unit _ 0 (side_more unit q PutM) (omega arith) (put_comes unit q (holding unit.node.chip unit.node.side q.line))
 
 -- a request is delivered to the cache side
-pub request_comes : (unit : UnitState) (place : ℕ) (q : Request) → IsInside unit → q.source < tile_count unit.node.chip → Waits unit → OwnRequestFits unit.node.tile unit.node.side q
+pub request_comes : (unit : UnitState) (place : ℕ) (q : Request) → IsInside unit → q.source < tile_count unit.node.chip → Waits unit
+    → OwnRequestFits unit.node.tile unit.node.side q
     → SideGrows unit (after_snoop unit.node.chip unit.node.tile unit.node.side place q) (side_more unit q q.kind)
 unfolding after_snoop
 request_comes unit place q inside source waits meets =

@@ -84,7 +84,8 @@ swept_on b d budget s (event ∷ events) reached within =
     (swept_on b d budget (tried b (chip_of d) s event) events first.reached first.within))
 
 -- where one of them is possible, some are done
-pub swept_more : (b : Behaviour) (d : Doc) (budget : ℕ) (s : ChipState) (events : List Event) (event : Event) → IsReachable b d s → length s.journal ≤ budget → ends budget s ≡ false
+pub swept_more : (b : Behaviour) (d : Doc) (budget : ℕ) (s : ChipState) (events : List Event) (event : Event) → IsReachable b d s → length s.journal ≤ budget
+    → ends budget s ≡ false
     → enabled b (chip_of d) s event ≡ true → Contains events event → length s.journal < length (swept b (chip_of d) budget s events).journal
 swept_more b d budget s [] event reached within going possible (k, inside, is) = absurd (omega arith)
 swept_more b d budget s (first ∷ events) event reached within going possible has = rw going (by (tries b (chip_of d) s first) has (swept_more b d budget s events event reached within going possible))
@@ -92,14 +93,16 @@ swept_more b d budget s (first ∷ events) event reached within going possible h
     after : ChipState
     after = swept b (chip_of d) budget (tried b (chip_of d) s first) events
 
-    other : (k : ℕ) → enabled b (chip_of d) s first ≡ false → k < suc (length events) → slice_index_or (first ∷ events) k event ≡ event → Contains events event
+    other : (k : ℕ) → enabled b (chip_of d) s first ≡ false → k < suc (length events) → slice_index_or (first ∷ events) k event ≡ event
+        → Contains events event
     other zero not_possible inside same =
         let is : first ≡ event = same in
         let both : true ≡ false = sym possible ∙ ap (enabled b (chip_of d) s) (sym is) ∙ not_possible in
         cc
     other (suc k) not_possible inside same = (k, omega arith, same)
 
-    by : Tries b (chip_of d) s first → Contains (first ∷ events) event → (Contains events event → length s.journal < length (swept b (chip_of d) budget s events).journal)
+    by : Tries b (chip_of d) s first → Contains (first ∷ events) event
+        → (Contains events event → length s.journal < length (swept b (chip_of d) budget s events).journal)
         → length s.journal < length after.journal
     by (does left is now) has rest_grows =
         let on = trying b d budget s first reached within going in
@@ -126,18 +129,21 @@ SlotIsPossible b d = (s : ChipState) → IsReachable b d s → finished s ≡ fa
 
 -- a chip that is never stuck has one
 pub slot_possible : (b : Behaviour) (d : Doc) (s : ChipState) → finished s ≡ false → (finished s ≡ true) ⊎ SomeIsEnabled b (chip_of d) s
-    → ((event : Event) → enabled b (chip_of d) s event ≡ true → Contains (slots (chip_of d)) event) → (event : Event) × (enabled b (chip_of d) s event ≡ true) × Contains (slots (chip_of d)) event
+    → ((event : Event) → enabled b (chip_of d) s event ≡ true → Contains (slots (chip_of d)) event)
+    → (event : Event) × (enabled b (chip_of d) s event ≡ true) × Contains (slots (chip_of d)) event
 slot_possible b d s unfinished (inl done) slot = let both : true ≡ false = sym done ∙ unfinished in cc
 slot_possible b d s unfinished (inr some) slot = (some.event, some.possible, slot some.event some.possible)
 
-pub sweep_grows : (b : Behaviour) (d : Doc) (budget offset : ℕ) (s : ChipState) → SlotIsPossible b d → IsReachable b d s → length s.journal ≤ budget → ends budget s ≡ false
+pub sweep_grows : (b : Behaviour) (d : Doc) (budget offset : ℕ) (s : ChipState) → SlotIsPossible b d → IsReachable b d s → length s.journal ≤ budget
+    → ends budget s ≡ false
     → length s.journal < length (swept b (chip_of d) budget s (from_offset (slots (chip_of d)) offset)).journal
 sweep_grows b d budget offset s some reached within going =
     let one = some s reached (not_finished budget s going) in
     swept_more b d budget s (from_offset (slots (chip_of d)) offset) one.0 reached within going one.1 (from_any_offset (slots (chip_of d)) offset one.0 one.2)
 
 -- sweeps lead to states that are reached
-pub sweeps_on : (b : Behaviour) (d : Doc) (budget : ℕ) (s : ChipState) (offsets : List ℕ) → IsReachable b d s → length s.journal ≤ budget → GoesOnTo b d budget s (sweeps b (chip_of d) budget s offsets)
+pub sweeps_on : (b : Behaviour) (d : Doc) (budget : ℕ) (s : ChipState) (offsets : List ℕ) → IsReachable b d s → length s.journal ≤ budget
+    → GoesOnTo b d budget s (sweeps b (chip_of d) budget s offsets)
 unfolding sweeps
 sweeps_on b d budget s [] reached within = record { reached = reached; within = within; more = omega arith }
 sweeps_on b d budget s (offset ∷ offsets) reached within =
@@ -165,7 +171,8 @@ sweeps_next : (b : Behaviour) (chip : Chip) (budget : ℕ) (s : ChipState) (offs
 unfolding sweeps
 sweeps_next b chip budget s offset offsets going = rw going refl
 
-ends_from : (b : Behaviour) (d : Doc) (budget : ℕ) (pace : ℕ → ℕ) (left first : ℕ) (s : ChipState) → SlotIsPossible b d → IsReachable b d s → length s.journal ≤ budget → budget ≤ length s.journal + left
+ends_from : (b : Behaviour) (d : Doc) (budget : ℕ) (pace : ℕ → ℕ) (left first : ℕ) (s : ChipState) → SlotIsPossible b d → IsReachable b d s
+    → length s.journal ≤ budget → budget ≤ length s.journal + left
     → EndsFrom b d budget pace first s
 ends_from b d budget pace zero first s some reached within few = by (ends budget s) refl
   where
@@ -179,7 +186,8 @@ ends_from b d budget pace (suc left) first s some reached within few =
     new = swept b (chip_of d) budget s (from_offset (slots (chip_of d)) (pace first))
 
     by : (done : Bool) → ends budget s ≡ done
-        → (IsReachable b d new → length new.journal ≤ budget → budget ≤ length new.journal + left → EndsFrom b d budget pace (first + 1) new) → EndsFrom b d budget pace first s
+        → (IsReachable b d new → length new.journal ≤ budget → budget ≤ length new.journal + left → EndsFrom b d budget pace (first + 1) new)
+        → EndsFrom b d budget pace first s
     by true is later = record { count = 0; last = s; is = sweeps_none b (chip_of d) budget s; made = _; ended = is }
     by false is later =
         let on = swept_on b d budget s (from_offset (slots (chip_of d)) (pace first)) reached within in

@@ -56,7 +56,8 @@ core_falls chip s new tile of all =
 abbrev pub AllWait : ChipState → Type 0
 AllWait s = (t : ℕ) (unit : UnitState) → slice_get s.units t ≡ Some unit → Waits unit
 
-pub data_eject_falls : (chip : Chip) (s new : ChipState) (r : ℕ) (port : Port) (slot : ℕ) → AreOfChip chip s → AllWait s → data_eject in_order s r port slot ≡ Some new → Falls chip s new
+pub data_eject_falls : (chip : Chip) (s new : ChipState) (r : ℕ) (port : Port) (slot : ℕ) → AreOfChip chip s → AllWait s
+    → data_eject in_order s r port slot ≡ Some new → Falls chip s new
 unfolding unit_at
 data_eject_falls chip s new r port slot of wait =
     bind_eq (Falls chip s) (after_data_eject s.replies r port slot) _
@@ -83,7 +84,8 @@ abbrev pub DeliveriesComeNext : Chip → ChipState → Type 0
 DeliveriesComeNext chip s = (t : ℕ) (unit : UnitState) (q : Request) (net : OrderedNetwork) → slice_get s.units t ≡ Some unit → after_delivery chip s.network t ≡ Some (q, net)
     → ComesInTurn s t unit q
 
-delivers : (s new : ChipState) (tile : ℕ) (unit later : UnitState) → slice_get s.units tile ≡ Some unit → new.units ≡ set s.units tile later → new.network.ordered ≡ s.network.ordered
+delivers : (s new : ChipState) (tile : ℕ) (unit later : UnitState) → slice_get s.units tile ≡ Some unit → new.units ≡ set s.units tile later
+    → new.network.ordered ≡ s.network.ordered
     → later.node.delivered ≡ unit.node.delivered + 1 → Delivers s new tile unit.node.delivered
 delivers s new tile unit later there units ordered one = record { ordered = ordered; was = ap count_of there; is = now ∙ one; more = more }
   where

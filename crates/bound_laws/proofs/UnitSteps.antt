@@ -46,7 +46,8 @@ same_core unit side records out delivered None = refl
 same_core unit side records out delivered (Some done) = refl
 
 -- the parts of a unit's step together
-unit_grows : (unit : UnitState) (outcome : Outcome) (records : Records) (out : List Msg) (delivered side_more home_more : ℕ) → SideGrows unit outcome side_more
+unit_grows : (unit : UnitState) (outcome : Outcome) (records : Records) (out : List Msg) (delivered side_more home_more : ℕ)
+    → SideGrows unit outcome side_more
     → sum_by (record_promises unit.node.chip.grid unit.node.tile) records + sends_to_go unit.node.chip.grid unit.node.tile out
     ≤ sum_by (record_promises unit.node.chip.grid unit.node.tile) unit.node.records + sends_to_go unit.node.chip.grid unit.node.tile unit.node.out
     + sends_to_go unit.node.chip.grid unit.node.tile outcome.sends + home_more
@@ -81,7 +82,7 @@ message_keeps unit msg waits = by msg.kind
       delivered = ap (λ (node : Node). node.delivered) (performed_node unit (words_arrived node msg.words).0 (words_arrived node msg.words).1);
       to_go =
           let grows = unit_grows unit outcome node.records (node.out ++ outcome.sends) node.delivered 0 0 (words_come unit msg.words waits)
-              (omega (arith, sum_by-append (λ (msg : Msg). 2 + distance node.chip.grid node.tile msg.to) node.out outcome.sends)) in
+          (omega (arith, sum_by-append (λ (msg : Msg). 2 + distance node.chip.grid node.tile msg.to) node.out outcome.sends)) in
           omega arith;
     }
     by Back = record {
@@ -90,7 +91,7 @@ message_keeps unit msg waits = by msg.kind
           let answers = back_arrived msg.line msg.words node.records in
           let home = words_at_home node.chip.grid node.tile msg.line msg.words node.records in
           let grows = unit_grows unit (quiet node.side) answers.records (node.out ++ answers.sends) node.delivered 0 0 (side_stays unit node.side [] 0 refl (λ line fits. fits) (omega arith))
-              (omega (arith, sum_by-append (λ (msg : Msg). 2 + distance node.chip.grid node.tile msg.to) node.out answers.sends)) in
+          (omega (arith, sum_by-append (λ (msg : Msg). 2 + distance node.chip.grid node.tile msg.to) node.out answers.sends)) in
           omega arith;
     }
 
@@ -129,7 +130,8 @@ get_answer ordered unit q next =
     omega arith
 
 -- of a write-back its tile, where it owns the line
-put_by : (t source n : ℕ) (o : Owner) → cond (is_tile t o) (cond (source == t) n 0) 0 ≤ n * count_if (is_by t (if is_tile source o then Some source else None))
+put_by : (t source n : ℕ) (o : Owner)
+    → cond (is_tile t o) (cond (source == t) n 0) 0 ≤ n * count_if (is_by t (if is_tile source o then Some source else None))
 put_by t source n o = by (source == t) refl
   where
     own : (b : Bool) → cond b n 0 ≤ n * count_if (is_by t (if b then Some t else None))
@@ -156,7 +158,8 @@ kind_answer ordered unit q GetS is next = rw is (let here = get_answer ordered u
 kind_answer ordered unit q GetM is next = rw is (let here = get_answer ordered unit q next in omega arith)
 kind_answer ordered unit q PutM is next = rw is (put_answer ordered unit q next)
 
-pub delivery_grows : (ordered : List Request) (unit : UnitState) (q : Request) → ComesNext ordered unit q → GrowsByAnswer ordered q unit (in_order.delivered q unit).0
+pub delivery_grows : (ordered : List Request) (unit : UnitState) (q : Request) → ComesNext ordered unit q
+    → GrowsByAnswer ordered q unit (in_order.delivered q unit).0
 unfolding in_order node_after_request
 delivery_grows ordered unit q next = record {
   delivered = ap (λ (node : Node). node.delivered) (performed_node unit (node_after_request q unit.node).0 (node_after_request q unit.node).1);
@@ -168,11 +171,11 @@ delivery_grows ordered unit q next = record {
       let side = request_comes unit node.delivered q next.inside next.source next.waits next.own in
       let home_more = cond (is_from_memory (slice_index_or node.records q.line None)) (home_price node.chip q.kind) 0 in
       let grows = unit_grows unit outcome answers.records (node.out ++ outcome.sends ++ answers.sends) (node.delivered + 1) (side_more unit q q.kind) home_more side
-          (omega (
-            arith,
-            sum_by-append (λ (msg : Msg). 2 + distance node.chip.grid node.tile msg.to) (node.out ++ outcome.sends) answers.sends,
-            sum_by-append (λ (msg : Msg). 2 + distance node.chip.grid node.tile msg.to) node.out outcome.sends,
-          )) in
+      (omega (
+        arith,
+        sum_by-append (λ (msg : Msg). 2 + distance node.chip.grid node.tile msg.to) (node.out ++ outcome.sends) answers.sends,
+        sum_by-append (λ (msg : Msg). 2 + distance node.chip.grid node.tile msg.to) node.out outcome.sends,
+      )) in
       let answer = kind_answer ordered unit q q.kind refl next in
       omega arith;
 }

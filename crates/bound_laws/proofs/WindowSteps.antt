@@ -104,7 +104,8 @@ post_lowers chip net new t =
     after : Interface → Windows → OrderedNetwork
     after interface windows = with_interface (record net { windows = windows }) t (record interface { posted = interface.posted + 1 })
 
-    lowers : (interface : Interface) (windows : Windows) → slice_get net.interfaces t ≡ Some interface → interface.posted < length interface.made → after_post net.windows t ≡ Some windows → Lowers chip net (after interface windows)
+    lowers : (interface : Interface) (windows : Windows) → slice_get net.interfaces t ≡ Some interface → interface.posted < length interface.made
+        → after_post net.windows t ≡ Some windows → Lowers chip net (after interface windows)
     lowers interface windows there less posts =
         let grows = posted_grows chip net.windows windows t posts in
         let new = record interface { posted = interface.posted + 1 } in
@@ -113,7 +114,8 @@ post_lowers chip net new t =
         let deliveries = sum_by-set (λ (interface : Interface). length net.ordered - interface.delivered) net.interfaces t interface new there in
         record { ordered = refl; lowers = omega arith }
 
-    guarded : (interface : Interface) → slice_get net.interfaces t ≡ Some interface → (more : Bool) → nat_lt interface.posted (length interface.made) ≡ more → (n : OrderedNetwork) → cond more (after_post net.windows t >>= (λ windows. Some (after interface windows))) None ≡ Some n → Lowers chip net n
+    guarded : (interface : Interface) → slice_get net.interfaces t ≡ Some interface → (more : Bool) → nat_lt interface.posted (length interface.made) ≡ more
+        → (n : OrderedNetwork) → cond more (after_post net.windows t >>= (λ windows. Some (after interface windows))) None ≡ Some n → Lowers chip net n
     guarded interface there true is n last = bind_eq (Lowers chip net) (after_post net.windows t) _ (λ windows posts m done. made (Lowers chip net) (after interface windows) m (lowers interface windows there (ltb-true _ _ is) posts) done) n last
     guarded interface there false is n last = cc
 
@@ -140,7 +142,8 @@ few_ordered chip net some =
     omega arith
 
 -- ---- a tick
-merge_lowers : (chip : Chip) (w : Windows) → w.phase < chip.window → 0 < w.posts → windows_to_go chip (record w { phase = w.phase + 1 }) < windows_to_go chip w
+merge_lowers : (chip : Chip) (w : Windows) → w.phase < chip.window → 0 < w.posts
+    → windows_to_go chip (record w { phase = w.phase + 1 }) < windows_to_go chip w
 merge_lowers chip w phase some = rw (lt-ltb 0 w.posts some) (omega arith)
 
 closed_none : (chip : Chip) (w : Windows) → length w.taken ≡ tile_count chip → windows_to_go chip (window_closed w) ≤ vectors_to_go w + tile_count chip
@@ -153,12 +156,14 @@ closed_none chip w tiles =
 open_window : (chip : Chip) (w : Windows) → 0 < w.posts → is_last_tick chip.window w ≡ true → window_to_go chip w ≡ 1 + tile_count chip
 open_window chip w some last = rw (lt-ltb 0 w.posts some) (let ends = eqb-true (w.phase + 1) chip.window last in omega arith)
 
-deliveries_grow : (net : OrderedNetwork) (windows : Windows) (more : List Request) → deliveries_to_go (record net { windows = windows; ordered = net.ordered ++ more }) ≤ deliveries_to_go net + length more * length net.interfaces
+deliveries_grow : (net : OrderedNetwork) (windows : Windows) (more : List Request)
+    → deliveries_to_go (record net { windows = windows; ordered = net.ordered ++ more }) ≤ deliveries_to_go net + length more * length net.interfaces
 deliveries_grow net windows more =
     sum_rises (λ (interface : Interface). length (net.ordered ++ more) - interface.delivered) (λ (interface : Interface). length net.ordered - interface.delivered) (length more) net.interfaces
     (λ interface. omega (arith, length-append net.ordered more))
 
-close_lowers : (chip : Chip) (net : OrderedNetwork) → 0 < tile_count chip → length net.windows.taken ≡ tile_count chip → length net.interfaces ≡ tile_count chip → 0 < net.windows.posts → is_last_tick chip.window net.windows ≡ true
+close_lowers : (chip : Chip) (net : OrderedNetwork) → 0 < tile_count chip → length net.windows.taken ≡ tile_count chip
+    → length net.interfaces ≡ tile_count chip → 0 < net.windows.posts → is_last_tick chip.window net.windows ≡ true
     → TickLowers chip net (record net { windows = window_closed net.windows; ordered = net.ordered ++ ordered_by_window chip net })
 unfolding requests_to_go
 close_lowers chip net tiles taken interfaces some last = record { more = more; ordered = refl; lowers = lowers }
@@ -179,7 +184,8 @@ close_lowers chip net tiles taken interfaces some last = record { more = more; o
         let each = ap (λ (n : ℕ). length more * n) interfaces in
         omega arith
 
-pub tick_lowers : (chip : Chip) (net new : OrderedNetwork) → 0 < tile_count chip → WindowsFit chip net.windows → length net.interfaces ≡ tile_count chip → after_network_tick chip net ≡ Some new → TickLowers chip net new
+pub tick_lowers : (chip : Chip) (net new : OrderedNetwork) → 0 < tile_count chip → WindowsFit chip net.windows → length net.interfaces ≡ tile_count chip
+    → after_network_tick chip net ≡ Some new → TickLowers chip net new
 unfolding after_network_tick requests_to_go
 tick_lowers chip net new tiles fits interfaces =
     bind_eq (TickLowers chip net) (after_tick chip.window net.windows) _
@@ -189,7 +195,8 @@ tick_lowers chip net new tiles fits interfaces =
     after : Windows → Bool → OrderedNetwork
     after windows last = record net { windows = windows; ordered = cond last (net.ordered ++ ordered_by_window chip net) net.ordered }
 
-    by : (windows : Windows) → TickPasses chip.window net.windows windows → (last : Bool) → is_last_tick chip.window net.windows ≡ last → TickLowers chip net (after windows last)
+    by : (windows : Windows) → TickPasses chip.window net.windows windows → (last : Bool) → is_last_tick chip.window net.windows ≡ last
+        → TickLowers chip net (after windows last)
     by windows tick true is =
         let closed : windows ≡ window_closed net.windows = rw is at tick.is in
         subst (λ (windows : Windows). TickLowers chip net (after windows true)) (sym closed) (close_lowers chip net tiles fits.tiles interfaces tick.posted is)

@@ -23,11 +23,12 @@ returns-clause-opened c = opening_below
 pub returns-clause-falls : goal.returns-clause-falls
 returns-clause-falls c = λ d s new event fits forward holds cores is.
     let own : OwnRequestsFit d s = λ t unit q net there delivers.
-        (c.node_event_laws.ensures.next d s fits holds t unit q net there delivers, c.node_event_laws.ensures.own d s t unit q net fits holds there delivers) in
+    (c.node_event_laws.ensures.next d s fits holds t unit q net there delivers, c.node_event_laws.ensures.own d s t unit q net fits holds there delivers) in
     event_falls (chip_of d) s new event (may_fall d s (c.chip_network_laws.ensures.requests d fits) forward own holds cores) is
 
 -- the events of a run and those to come
-within : (c : goal.After-chip_progress_laws) (d : Doc) (events : List Event) (s : ChipState) → DocFits d → IsForward d → run in_order (chip_of d) (opening d) events ≡ Some s
+within : (c : goal.After-chip_progress_laws) (d : Doc) (events : List Event) (s : ChipState) → DocFits d → IsForward d
+    → run in_order (chip_of d) (opening d) events ≡ Some s
     → length events + measure (chip_of d) s ≤ bound d
 within c d events s fits forward e =
     let laws = c.behaviour_laws.ensures in
