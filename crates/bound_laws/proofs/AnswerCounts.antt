@@ -30,8 +30,10 @@ SameCounts s new = (t : ℕ) → delivered_at new t ≡ delivered_at s t
 same_answer : (chip : Chip) (s new : ChipState) (more : List Request) (place : ℕ) → new.network.ordered ≡ s.network.ordered ++ more → SameCounts s new
     → place < length s.network.ordered → is_to_answer chip new place ≡ is_to_answer chip s place
 same_answer chip s new more place ordered same within =
-    let there : slice_get new.network.ordered place ≡ slice_get s.network.ordered place = ap (λ requests. slice_get requests place) ordered ∙ slice_get-append_left s.network.ordered more place within in
-    let front : take place new.network.ordered ≡ take place s.network.ordered = ap (take place) ordered ∙ take-append-le place s.network.ordered more (omega arith) in
+    let there : slice_get new.network.ordered place ≡ slice_get s.network.ordered place =
+    ap (λ requests. slice_get requests place) ordered ∙ slice_get-append_left s.network.ordered more place within in
+    let front : take place new.network.ordered ≡ take place s.network.ordered =
+    ap (take place) ordered ∙ take-append-le place s.network.ordered more (omega arith) in
     ap (is_to_answer_at chip new place) there ∙ by (slice_get s.network.ordered place) front
   where
     come : (t : Option ℕ) → has_to_come new place t ≡ has_to_come s place t
@@ -51,10 +53,15 @@ pub answers_grow : (chip : Chip) (s new : ChipState) (more : List Request) → n
 unfolding answers_to_go
 answers_grow chip s new more ordered same =
     let longer : length new.network.ordered ≡ length s.network.ordered + length more = ap length ordered ∙ length-append s.network.ordered more in
-    let parts = ap (λ (count : ℕ). count_by (is_to_answer chip new) (upwards 0 count)) longer ∙ count-split (is_to_answer chip new) (length s.network.ordered) (length more) in
-    let old = count_by-same (is_to_answer chip new) (is_to_answer chip s) 0 (length s.network.ordered) (λ place from to. same_answer chip s new more place ordered same (omega arith)) in
+    let parts =
+    ap (λ (count : ℕ). count_by (is_to_answer chip new) (upwards 0 count)) longer ∙ count-split (is_to_answer chip new) (length s.network.ordered)
+    (length more) in
+    let old =
+    count_by-same (is_to_answer chip new) (is_to_answer chip s) 0 (length s.network.ordered)
+    (λ place from to. same_answer chip s new more place ordered same (omega arith)) in
     let few = count_le (is_to_answer chip new) (length s.network.ordered) (length more) in
-    let all : count_by (is_to_answer chip new) (upwards 0 (length new.network.ordered)) ≤ count_by (is_to_answer chip s) (upwards 0 (length s.network.ordered)) + length more = omega arith in
+    let all : count_by (is_to_answer chip new) (upwards 0 (length new.network.ordered)) ≤ count_by (is_to_answer chip s)
+    (upwards 0 (length s.network.ordered)) + length more = omega arith in
     let less = mul-le-mul_left (per_answer chip) all in
     omega (arith, mul-add (per_answer chip) (count_by (is_to_answer chip s) (upwards 0 (length s.network.ordered))) (length more))
 
@@ -83,7 +90,8 @@ count_falls : (p q : ℕ → Bool) (place less first count : ℕ) → first ≤ 
     → count_if (p place) + less ≤ count_if (q place)
     → count_by p (upwards first count) + less ≤ count_by q (upwards first count)
 count_falls p q place less first zero from to each at = absurd (omega arith)
-count_falls p q place less first (suc count) from to each at = by (cases_lt first place) (λ later. count_falls p q place less (first + 1) count (omega arith) (omega arith) each at)
+count_falls p q place less first (suc count) from to each at =
+    by (cases_lt first place) (λ later. count_falls p q place less (first + 1) count (omega arith) (omega arith) each at)
   where
     by : (first < place) ⊎ (place ≤ first) → (first < place → count_by p (upwards (first + 1) count) + less ≤ count_by q (upwards (first + 1) count))
         → count_by p (upwards first (suc count)) + less ≤ count_by q (upwards first (suc count))
@@ -117,9 +125,12 @@ unfolding answers_to_go
 answers_fall chip s new t place q step there =
     let longer = ap (λ (requests : List Request). length requests) step.ordered in
     let within = slice_get_within s.network.ordered place q there in
-    let less = count_falls (is_to_answer chip new) (is_to_answer chip s) place (count_if (is_by t answers)) 0 (length s.network.ordered) (omega arith) (omega arith) each at in
+    let less =
+    count_falls (is_to_answer chip new) (is_to_answer chip s) place (count_if (is_by t answers)) 0 (length s.network.ordered) (omega arith)
+    (omega arith) each at in
     let all = ap (λ (count : ℕ). count_by (is_to_answer chip new) (upwards 0 count)) longer in
-    let fewer : count_by (is_to_answer chip new) (upwards 0 (length new.network.ordered)) + count_if (is_by t answers) ≤ count_by (is_to_answer chip s) (upwards 0 (length s.network.ordered)) = omega arith in
+    let fewer : count_by (is_to_answer chip new) (upwards 0 (length new.network.ordered)) + count_if (is_by t answers) ≤ count_by (is_to_answer chip s)
+    (upwards 0 (length s.network.ordered)) = omega arith in
     let price = mul-le-mul_left (per_answer chip) fewer in
     omega (arith, mul-add (per_answer chip) (count_by (is_to_answer chip new) (upwards 0 (length new.network.ordered))) (count_if (is_by t answers)))
   where
@@ -157,7 +168,9 @@ answers_fall chip s new t place q step there =
 
     at : count_if (is_to_answer chip new place) + count_if (is_by t answers) ≤ count_if (is_to_answer chip s place)
     at =
-        let now = ap (λ (requests : List Request). count_if (is_to_answer_at chip new place (slice_get requests place))) step.ordered ∙ ap (λ (o : Option Request). count_if (is_to_answer_at chip new place o)) there in
+        let now =
+        ap (λ (requests : List Request). count_if (is_to_answer_at chip new place (slice_get requests place))) step.ordered ∙ ap
+        (λ (o : Option Request). count_if (is_to_answer_at chip new place o)) there in
         let here = ap (λ (requests : List Request). count_if (has_to_come new place (answerer chip q (owner q.line (take place requests))))) step.ordered in
         let before = ap (λ (o : Option Request). count_if (is_to_answer_at chip s place o)) there in
         let less = leaves answers in

@@ -44,15 +44,18 @@ room_after chip cache line held fits = by (get_or cache (set_number chip line) [
     inside rest is (inr past) = let none = get_or_past cache (set_number chip line) [] past in cc
 
     first : (rest : Ways) → get_or cache (set_number chip line) [] ≡ Some held ∷ rest
-        → has_empty (get_or (set cache (set_number chip held.line) (emptied held.line (get_or cache (set_number chip held.line) []))) (set_number chip line) []) ≡ true
+        → has_empty
+        (get_or (set cache (set_number chip held.line) (emptied held.line (get_or cache (set_number chip held.line) []))) (set_number chip line) []) ≡ true
     first rest is =
-        let own : set_number chip held.line ≡ set_number chip line = fits.placed (set_number chip line) held.line (ap (λ (ways : Ways). is_some (found held.line ways)) is ∙ found_first held rest) in
+        let own : set_number chip held.line ≡ set_number chip line =
+        fits.placed (set_number chip line) held.line (ap (λ (ways : Ways). is_some (found held.line ways)) is ∙ found_first held rest) in
         let within = inside rest is (cases_lt (set_number chip line) (length cache)) in
         rw own (ap has_empty (get_or-set_same cache (set_number chip line) (emptied held.line (get_or cache (set_number chip line) [])) [] within)
         ∙ ap (λ (ways : Ways). has_empty (emptied held.line ways)) is ∙ empty_first held rest)
 
     by : (ways : Ways) → get_or cache (set_number chip line) [] ≡ ways → lowest ways ≡ Some held
-        → has_empty (get_or (set cache (set_number chip held.line) (emptied held.line (get_or cache (set_number chip held.line) []))) (set_number chip line) []) ≡ true
+        → has_empty
+        (get_or (set cache (set_number chip held.line) (emptied held.line (get_or cache (set_number chip held.line) []))) (set_number chip line) []) ≡ true
     by [] is low = cc
     by (None ∷ rest) is low = cc
     by (Some held_first ∷ rest) is low = first rest (is ∙ ap (λ (way : Option Held). way ∷ rest) low)
@@ -92,7 +95,8 @@ record Tries (unit : UnitState) (access : Pending) : Type 0 where
   demand : unit.node.side.misses.demand ≡ None
   cache : IsCache unit.node.chip unit.node.side.cache
   costs : (cache : Cache)
-      → effect_to_go unit.node.chip cache (effect_of (instr_at unit.program unit.core.place) unit.core) ≡ access_to_go unit.node.chip cache (line_of access.address)
+      → effect_to_go unit.node.chip cache (effect_of (instr_at unit.program unit.core.place) unit.core) ≡ access_to_go unit.node.chip cache
+      (line_of access.address)
   done : IsDoneAt unit.program unit.core access.kind
 
 next_is : (unit : UnitState) → unit.node.side.misses.demand ≡ None
@@ -110,7 +114,8 @@ hit_steps unit access done cache kind tries =
     let next = next_is unit tries.demand in
     let costs = tries.costs unit.node.side.cache in
     let some : 0 < access_to_go unit.node.chip unit.node.side.cache (line_of access.address) =
-    cost_some (fits unit.node.chip unit.node.side.cache (line_of access.address)) (1 + per_request unit.node.chip) (per_instruction unit.node.chip) (omega arith) (omega arith) in
+    cost_some (fits unit.node.chip unit.node.side.cache (line_of access.address)) (1 + per_request unit.node.chip) (per_instruction unit.node.chip)
+    (omega arith) (omega arith) in
     record { delivered = refl; falls = omega arith }
 
 -- it starts a demand
@@ -147,7 +152,8 @@ back_steps : (unit : UnitState) (access : Pending) (held : Held) → Tries unit 
 unfolding node_to_go
 back_steps unit access held tries absent full low out is =
     let parts = when_some (not (holds_back unit.node.out || is_some unit.node.side.misses.back)) (Some (node, None)) out is in
-    made (λ (out : Performed). Steps unit (performed unit out).0) (node, None) out (steps (none_stands (holds_back unit.node.out) unit.node.side.misses.back parts.0)) parts.1
+    made (λ (out : Performed). Steps unit (performed unit out).0) (node, None) out
+    (steps (none_stands (holds_back unit.node.out) unit.node.side.misses.back parts.0)) parts.1
   where
     cache : Cache
     cache = without_line unit.node.chip held.line unit.node.side.cache
@@ -191,7 +197,8 @@ misses_step unit access tries absent out = room_by (has_room unit.node.chip unit
     shared_by full None is = victim_by full (lowest_for unit.node.chip (line_of access.address) unit.node.side.cache) refl is
 
     room_by : (room : Bool) → has_room unit.node.chip unit.node.side.cache (line_of access.address) ≡ room
-        → cond room (Some (demand_started access unit.node.side unit.node)) (victim_evicted access unit.node (without_shared unit.node.chip (line_of access.address) unit.node.side.cache)) ≡ Some out → P out
+        → cond room (Some (demand_started access unit.node.side unit.node))
+        (victim_evicted access unit.node (without_shared unit.node.chip (line_of access.address) unit.node.side.cache)) ≡ Some out → P out
     room_by true room is =
         let cost = access_room unit.node.chip unit.node.side.cache (line_of access.address) room in
         made P (demand_started access unit.node.side unit.node) out (demand_steps unit access unit.node.side.cache tries (omega arith)) is
@@ -220,7 +227,8 @@ access_steps unit access tries out = by (lookup unit.node.chip unit.node.side.ca
     stores : (held : Held) (state : State) → lookup unit.node.chip unit.node.side.cache (line_of access.address) ≡ Some held
         → store_to access held unit.node state ≡ Some out → P out
     stores held M there is =
-        made P (store_hit access held unit.node) out (hit held (installed unit.node.chip (record held { words = written_by access held.words }) unit.node.side.cache)) is
+        made P (store_hit access held unit.node) out
+        (hit held (installed unit.node.chip (record held { words = written_by access held.words }) unit.node.side.cache)) is
     stores held O there is = upgrades held there is
     stores held S there is = upgrades held there is
 
@@ -231,7 +239,9 @@ access_steps unit access tries out = by (lookup unit.node.chip unit.node.side.ca
 
     by : (held : Option Held) → lookup unit.node.chip unit.node.side.cache (line_of access.address) ≡ held → accessed_with access unit.node held ≡ Some out
         → P out
-    by None absent is = misses_step unit access tries absent out (when_some (not (is_written_back (line_of access.address) unit.node.side.misses.back)) (missed access unit.node) out is).1
+    by None absent is =
+        misses_step unit access tries absent out
+        (when_some (not (is_written_back (line_of access.address) unit.node.side.misses.back)) (missed access unit.node) out is).1
     by (Some held) there is = here held (writes access.kind) there is
 
 -- ---- a core event
@@ -310,7 +320,8 @@ becomes_steps unit core running none forward is =
     let later = goes_later unit.program unit.core core forward is in
     let on = core_goes_on unit.node.chip unit (record unit { core = core }) running refl inside later in
     let next = next_is unit none in
-    let cost : effect_to_go unit.node.chip unit.node.side.cache (effect_of (instr_at unit.program unit.core.place) unit.core) ≡ 1 = ap (effect_to_go unit.node.chip unit.node.side.cache) is in
+    let cost : effect_to_go unit.node.chip unit.node.side.cache (effect_of (instr_at unit.program unit.core.place) unit.core) ≡ 1 =
+    ap (effect_to_go unit.node.chip unit.node.side.cache) is in
     record { delivered = refl; falls = omega arith }
 
 pub core_steps : (unit : UnitState) (acted : Acted) → MayStep unit → core_event unit ≡ Some acted → Steps unit acted.0
@@ -325,7 +336,9 @@ core_steps unit acted may is =
 
     tried : (access : Pending) → Tries unit access → option_map (performed unit) (node_after_access access unit.node) ≡ Some acted → P acted
     tried access tries = of_map P (performed unit) (node_after_access access unit.node)
-        (λ out is. access_steps unit access tries out (when_some (not (has_entry unit.node)) (accessed_with access unit.node (lookup unit.node.chip unit.node.side.cache (line_of access.address))) out is).1) acted
+        (λ out is. access_steps unit access tries out
+        (when_some (not (has_entry unit.node))
+        (accessed_with access unit.node (lookup unit.node.chip unit.node.side.cache (line_of access.address))) out is).1) acted
 
     -- an access as the next instruction
     as_next : (access : Pending) (effect : Effect) → unit.halted ≡ false → unit.node.side.misses.demand ≡ None

@@ -34,14 +34,16 @@ effect_le chip cache Halts = omega arith
 
 next_le : (chip : Chip) (unit : UnitState) → next_to_go chip unit ≤ per_instruction chip
 next_le chip unit =
-    cond_below (is_some unit.node.side.misses.demand) 0 (effect_to_go chip unit.node.side.cache (effect_of (instr_at unit.program unit.core.place) unit.core)) (per_instruction chip) (omega arith)
+    cond_below (is_some unit.node.side.misses.demand) 0 (effect_to_go chip unit.node.side.cache (effect_of (instr_at unit.program unit.core.place) unit.core))
+    (per_instruction chip) (omega arith)
     (effect_le chip unit.node.side.cache _)
 
 pub instructions_le : (chip : Chip) (unit : UnitState) → instructions_to_go chip unit ≤ per_instruction chip * (length unit.program - unit.core.place)
 instructions_le chip unit = by (nat_lt unit.core.place (length unit.program)) refl
   where
     by : (inside : Bool) → nat_lt unit.core.place (length unit.program) ≡ inside
-        → cond inside (per_instruction chip * (length unit.program - unit.core.place - 1) + next_to_go chip unit) 0 ≤ per_instruction chip * (length unit.program - unit.core.place)
+        → cond inside (per_instruction chip * (length unit.program - unit.core.place - 1) + next_to_go chip unit) 0 ≤ per_instruction chip *
+        (length unit.program - unit.core.place)
     by false is = omega arith
     by true is =
         let less = ltb-true unit.core.place (length unit.program) is in
@@ -68,7 +70,8 @@ core_goes_on chip old new running program inside later =
     let size = ap length program in
     let less : length new.program - new.core.place ≤ length old.program - old.core.place - 1 = omega arith in
     let price = mul-le-mul_left (per_instruction chip) less in
-    let now : core_to_go chip new ≤ 1 + instructions_to_go chip new = cond_below new.halted 0 (1 + instructions_to_go chip new) (1 + instructions_to_go chip new) (omega arith) (omega arith) in
+    let now : core_to_go chip new ≤ 1 + instructions_to_go chip new =
+    cond_below new.halted 0 (1 + instructions_to_go chip new) (1 + instructions_to_go chip new) (omega arith) (omega arith) in
     omega arith
 
 -- the next instruction stands in the program, where it is not a halt
@@ -136,6 +139,8 @@ unfolding core_to_go
 core_side chip unit side same takes =
     let effect = effect_of (instr_at unit.program unit.core.place) unit.core in
     let rest = per_instruction chip * (length unit.program - unit.core.place - 1) in
-    let less = mono unit.halted (nat_lt unit.core.place (length unit.program)) (is_some unit.node.side.misses.demand) rest (effect_to_go chip side.cache effect) (effect_to_go chip unit.node.side.cache effect)
+    let less =
+    mono unit.halted (nat_lt unit.core.place (length unit.program)) (is_some unit.node.side.misses.demand) rest (effect_to_go chip side.cache effect)
+    (effect_to_go chip unit.node.side.cache effect)
     (effect_mono chip unit.node.side.cache side.cache effect takes) in
     rw same less

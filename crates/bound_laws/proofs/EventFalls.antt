@@ -68,7 +68,8 @@ pub counts_set : (units : List UnitState) (tile : ℕ) (unit new : UnitState) �
     → (t : ℕ) → count_of (slice_get (set units tile new) t) ≡ count_of (slice_get units t)
 counts_set units tile unit new there same t = ⊎_elim
     (λ (here : t ≡ tile).
-    ap (λ (k : ℕ). count_of (slice_get (set units tile new) k)) here ∙ ap count_of (slice_get-set_same units tile new (slice_get_within units tile unit there)) ∙ same
+    ap (λ (k : ℕ). count_of (slice_get (set units tile new) k)) here ∙ ap count_of
+    (slice_get-set_same units tile new (slice_get_within units tile unit there)) ∙ same
     ∙ sym (ap count_of there) ∙ sym (ap (λ (k : ℕ). count_of (slice_get units k)) here))
     (λ (other : t ≢ tile). ap count_of (slice_get-set_other units tile t new other))
     (cases_eq t tile)
@@ -97,7 +98,8 @@ marked chip misses asked = by misses.demand misses.back
     back_by : (demand : Option Demand) (back : WriteBack) (sent : Bool) → back.sent ≡ sent
         → cond {A = Option (Kind × ℕ)} sent (wanted_by_demand demand) (Some (PutM, back.line)) ≡ Some asked
         → IsMarked chip (record { demand = demand; back = Some back })
-        (cond {A = Misses} sent (record { demand = sent_demand demand; back = Some back }) (record { demand = demand; back = Some (record back { sent = true }) }))
+        (cond {A = Misses} sent (record { demand = sent_demand demand; back = Some back })
+        (record { demand = demand; back = Some (record back { sent = true }) }))
     back_by demand back true is wants = demand_is demand (Some back) wants
     back_by demand back false is wants = record { unsent = rw is (omega arith); promises = λ g t. refl; waits = refl }
 

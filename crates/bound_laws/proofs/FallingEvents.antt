@@ -71,7 +71,8 @@ forward_unit d t forward place target instr there among = by (slice_get d.progra
 
 -- a request of the unit itself is that of what its node waits for
 abbrev pub OwnRequestsFit : Doc → ChipState → Type 0
-OwnRequestsFit d s = (t : ℕ) (unit : UnitState) (q : Request) (net : OrderedNetwork) → slice_get s.units t ≡ Some unit → after_delivery (chip_of d) s.network t ≡ Some (q, net)
+OwnRequestsFit d s =
+    (t : ℕ) (unit : UnitState) (q : Request) (net : OrderedNetwork) → slice_get s.units t ≡ Some unit → after_delivery (chip_of d) s.network t ≡ Some (q, net)
     → (slice_get s.network.ordered unit.node.delivered ≡ Some q) × OwnRequestFits unit.node.tile unit.node.side q
 
 pub may_fall : (d : Doc) (s : ChipState) → DocLaws d → IsForward d → OwnRequestsFit d s → ProtocolHolds d s → CoresInOrder s → MayFall (chip_of d) s
@@ -82,7 +83,11 @@ may_fall d s laws forward own holds cores = record {
   chips = λ t unit there. (at t unit there).holds.node.chip;
   tiles = λ t unit there. (at t unit there).holds.node.agrees.tile;
   wait = wait;
-  steps = λ t unit there. record { cache = (at t unit there).holds.node.fits.side.cache; forward = subst GoesForward (sym (at t unit there).holds.core.program) (forward_unit d t forward) };
+  steps = λ t unit there. record {
+    cache =
+        (at t unit there).holds.node.fits.side.cache;
+    forward = subst GoesForward (sym (at t unit there).holds.core.program) (forward_unit d t forward);
+  };
   next = next;
 }
   where
@@ -110,7 +115,8 @@ may_fall d s laws forward own holds cores = record {
         let request = request_inside d s unit.node.delivered q laws holds known.0 in
         record {
           next = known.0;
-          within = λ interface at_tile. omega (arith, slice_get_within s.network.ordered unit.node.delivered q known.0, (holds.tiles t interface unit at_tile there).node.agrees.counts);
+          within = λ interface at_tile. omega
+              (arith, slice_get_within s.network.ordered unit.node.delivered q known.0, (holds.tiles t interface unit at_tile there).node.agrees.counts);
           comes = record {
             inside = inside t unit there;
             waits = wait t unit there;

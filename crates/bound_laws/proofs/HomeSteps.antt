@@ -1,10 +1,9 @@
 -- What a step of a memory controller does to what it has still to send: a get adds one answer where the memory owns its
 -- line, and words that come back go to those that wait for them.
-use Rattle.std.proofs.Common.{◌≡◌, ◌⊎◌, ℕ, ◌+◌, ◌<◌, ◌≤◌, cond, List, [], ◌∷◌, ◌++◌, Option, Some, None, length, refl, ap, inl, inr, arith}
+use Rattle.std.proofs.Common.{◌≡◌, ℕ, ◌+◌, ◌<◌, ◌≤◌, cond, List, [], ◌∷◌, ◌++◌, Option, Some, None, refl, arith}
 use Rattle.std.specs.Prelude.{slice_index_or, ◌==◌}
 use Rattle.std.specs.List.{sum_by}
-use Rattle.std.proofs.lemmas.Bool.{cases_lt, cond_both}
-use Rattle.std.proofs.lemmas.List.{get_or_past}
+use Rattle.std.proofs.lemmas.Bool.{cond_both}
 use Rattle.std.proofs.lemmas.List.Sums.{sum_by_push}
 use Rattle.mesh_gen.specs.declared.kind.Kind.{Kind}
 use Rattle.mesh_gen.specs.declared.kind.Kind.TheVariants.{GetS, GetM, PutM}
@@ -34,7 +33,8 @@ home_price chip GetM = per_answer chip
 home_price chip PutM = 0
 
 abbrev AnswerGrows : Chip → ℕ → LineRecord → Answer → ℕ → Type 0
-AnswerGrows chip t r answer more = promises_to_go chip.grid t answer.left.waiters + sends_to_go chip.grid t answer.sends ≤ promises_to_go chip.grid t r.waiters + more
+AnswerGrows chip t r answer more =
+    promises_to_go chip.grid t answer.left.waiters + sends_to_go chip.grid t answer.sends ≤ promises_to_go chip.grid t r.waiters + more
 
 memory_answers : (chip : Chip) (t : ℕ) (q : Request) (r : LineRecord) (kind : Kind) → Asks chip t q
     → AnswerGrows chip t r (from_memory q r kind) (home_price chip kind)
@@ -59,7 +59,8 @@ tile_answers : (chip : Chip) (t : ℕ) (q : Request) (r : LineRecord) (tile : �
 tile_answers chip t q r tile GetS = omega arith
 tile_answers chip t q r tile GetM = omega arith
 tile_answers chip t q r tile PutM =
-    cond_both (tile == q.source) (record r { owner = Memory }) r (λ (left : LineRecord). promises_to_go chip.grid t left.waiters + 0 ≤ promises_to_go chip.grid t r.waiters + 0)
+    cond_both (tile == q.source) (record r { owner = Memory }) r
+    (λ (left : LineRecord). promises_to_go chip.grid t left.waiters + 0 ≤ promises_to_go chip.grid t r.waiters + 0)
     (λ own. omega arith) (λ other. omega arith)
 
 record_answers : (chip : Chip) (t : ℕ) (q : Request) (r : LineRecord) (owner : Owner) → Asks chip t q

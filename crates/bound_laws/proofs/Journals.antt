@@ -30,7 +30,8 @@ pub step_journal : (b : Behaviour) (chip : Chip) (s new : ChipState) (event : Ev
 unfolding step unit_at
 step_journal b chip s new Tick = network_journal (after_network_tick chip s.network) s new
 step_journal b chip s new (Core t) = bind_eq (Same s) (slice_get s.units t) _
-    (λ unit there n last. made (Same s) (with_acted t (b.stepped unit) s) n refl (when_some (b.ready unit) (Some (with_acted t (b.stepped unit) s)) n last).1) new
+    (λ unit there n last. made (Same s) (with_acted t (b.stepped unit) s) n refl
+    (when_some (b.ready unit) (Some (with_acted t (b.stepped unit) s)) n last).1) new
 step_journal b chip s new (Inject t) = bind_eq (Same s) (slice_get s.units t) _
     (λ unit there n last. bind_eq (Same s) (wanted unit.node.side.misses) _
     (λ asked wants n last. bind_eq (Same s) (after_inject chip s.network t asked.0 asked.1) _

@@ -25,7 +25,8 @@ weigh-come : (f : ℕ → ℕ → ℕ → Msg → ℕ) (net : Network Msg) (r p 
     → weigh f (put net r p slot (Some msg)) ≡ weigh f net + f r p slot msg
 weigh-come f net r p slot msg free =
     let change : weigh f (put net r p slot (Some msg)) + 0 ≡ weigh f net + f r p slot msg =
-    subst (λ (was : Option Msg). weigh f (put net r p slot (Some msg)) + weight (f r p slot) was ≡ weigh f net + f r p slot msg) (free_none net r p slot free) (weigh-put f net r p slot (Some msg) (free_place net r p slot free)) in
+    subst (λ (was : Option Msg). weigh f (put net r p slot (Some msg)) + weight (f r p slot) was ≡ weigh f net + f r p slot msg) (free_none net r p slot free)
+    (weigh-put f net r p slot (Some msg) (free_place net r p slot free)) in
     omega arith
 
 pub sent_grows : (g : Grid) (net new : Network Msg) (r : ℕ) (msg : Msg) → after_send net r msg ≡ Some new
@@ -46,7 +47,8 @@ unfolding after_data_hop replies_to_go
 forwarded_lowers g net new r port slot some =
     bind_eq P (at net r (port_number port) slot) _
     (λ msg stands last done. bind_eq P (next_channel g net r msg) _
-    (λ next found n is. made P (put (put net r (port_number port) slot None) next.router (port_number next.port) next.slot (Some msg)) n (lowers msg next stands (next_found g net r msg next found)) is) last done)
+    (λ next found n is. made P (put (put net r (port_number port) slot None) next.router (port_number next.port) next.slot (Some msg)) n
+    (lowers msg next stands (next_found g net r msg next found)) is) last done)
     new
   where
     P : Network Msg → Type 0
@@ -57,8 +59,11 @@ forwarded_lowers g net new r port slot some =
     lowers msg next stands is =
         let mid = put net r (port_number port) slot None in
         let goes = weigh_at (reply_weight g) net r (port_number port) slot msg stands in
-        let other : get_or mid next.router [] ≡ get_or net next.router [] = bank-put_other net r (port_number port) slot None next.router (elsewhere g net r msg next (λ g dest r n some near. hop_nearer g r dest n some near) some is) in
-        let free : IsFree (channels_of mid next.router) (port_number next.port) next.slot = rw other (free_found net next.router (port_number next.port) next.slot is.lowest) in
+        let other : get_or mid next.router [] ≡ get_or net next.router [] =
+        bank-put_other net r (port_number port) slot None next.router
+        (elsewhere g net r msg next (λ g dest r n some near. hop_nearer g r dest n some near) some is) in
+        let free : IsFree (channels_of mid next.router) (port_number next.port) next.slot =
+        rw other (free_found net next.router (port_number next.port) next.slot is.lowest) in
         let comes = weigh-come (reply_weight g) mid next.router (port_number next.port) next.slot msg free in
         let nearer = hop_nearer g r msg.to next.router some is.near in
         omega arith

@@ -59,7 +59,12 @@ shifted g x d xs first zero = refl
 shifted g x d xs first (suc count) =
     let next : suc first + 1 ≡ suc (first + 1) = omega arith in
     let rest = ap (λ (n : ℕ). sum_by (λ t. g (get_or (x ∷ xs) t d)) (upwards n count)) next ∙ shifted g x d xs (first + 1) count in
-    omega (arith, sum_by-cons (λ t. g (get_or (x ∷ xs) t d)) (suc first) (upwards (suc first + 1) count), sum_by-cons (λ t. g (get_or xs t d)) first (upwards (first + 1) count))
+    omega (
+      arith,
+      sum_by-cons (λ t. g (get_or (x ∷ xs) t d)) (suc first) (upwards (suc first + 1) count),
+      sum_by-cons (λ t. g (get_or xs t d)) first
+          (upwards (first + 1) count),
+    )
 
 none_there : {X : Type 0} (g : X → ℕ) (d : X) (list : List ℕ) → g d ≡ 0 → sum_by (λ t. g (get_or [] t d)) list ≡ 0
 none_there g d list none = sum_nothing (λ t. g (get_or [] t d)) list (λ t. none)
@@ -128,7 +133,9 @@ opening_below d =
     let messages = no_messages chip.grid d.data_vcs in
     let answers = no_answers d in
     let units = sum_map (unit_to_go chip) (λ tile. opening_unit chip tile (program_of d tile) d.memory) (upwards 0 n) in
-    let priced = sum_priced (λ tile. unit_to_go chip (opening_unit chip tile (program_of d tile) d.memory)) (λ tile. length (program_of d tile)) (per_instruction chip) (upwards 0 n) (λ tile. unit_opens chip tile (program_of d tile) d.memory) in
+    let priced =
+    sum_priced (λ tile. unit_to_go chip (opening_unit chip tile (program_of d tile) d.memory)) (λ tile. length (program_of d tile)) (per_instruction chip)
+    (upwards 0 n) (λ tile. unit_opens chip tile (program_of d tile) d.memory) in
     let programs = mul-le-mul_left (per_instruction chip) (sum_at (length {A = Instr}) [] d.programs n refl) in
     let tiles_are = ap (λ (count : ℕ). per_instruction chip * count) (length-upwards 0 n) in
     let price : per_instruction chip ≡ 6 * n + 2 * d.window + 2 * diameter chip.grid + 8 = omega arith in

@@ -1,9 +1,8 @@
 -- A hop of a copy lowers the measure of the ordered network, a delivery does, and a request that enters raises it by little.
-use Rattle.std.proofs.Common.{◌≡◌, ℕ, zero, suc, ◌+◌, ◌-◌, ◌*◌, ◌<◌, ◌≤◌, Bool, true, false, cond, List, [], ◌∷◌, ◌++◌, take, Option, length-append, Some, None, length, get_or, refl, sym, ◌∙◌, ap, subst, arith}
+use Rattle.std.proofs.Common.{◌≡◌, ℕ, zero, suc, ◌+◌, ◌-◌, ◌*◌, ◌<◌, ◌≤◌, Bool, true, false, cond, List, [], ◌∷◌, ◌++◌, Option, length-append, Some, None, length, get_or, refl, sym, ◌∙◌, subst, arith}
 use Rattle.std.specs.Prelude.{slice_get, count_by, ◌==◌, ◌&&◌, if◌then◌else◌}
 use Rattle.std.specs.List.{sum_by}
 use Rattle.std.proofs.Math.Nat.{mul-add, mul-le-mul_left}
-use Rattle.std.proofs.lemmas.List.{length-map}
 use Rattle.std.proofs.lemmas.Option.{slice_get_within}
 use Rattle.std.proofs.lemmas.List.Sums.{sum_by-cons}
 use Rattle.mesh_gen.specs.declared.request.Request.{Request}
@@ -21,14 +20,13 @@ use Rattle.mesh_gen.proofs.Beside.{neighbour_inside}
 use Rattle.vc_bank.specs.Channels.{IsFree, lowest_free}
 use Rattle.vc_bank.specs.Places.{Network, at, put, weight}
 use Rattle.vc_bank.proofs.PlaceLaws.{bank-put_other}
-use Rattle.order_tracker.specs.Order.{upwards, expansion, order_from, order, entry_at}
+use Rattle.order_tracker.specs.Order.{upwards}
 use Rattle.chip_model.specs.declared.net_copy.NetCopy.{NetCopy}
 use Rattle.mesh_gen.specs.Partial.{◌>>=◌, when}
 use Rattle.chip_model.specs.Chip.{Chip, tile_count}
 use Rattle.chip_model.specs.Copies.{Name, channels_of, arriving, copy_owing, left_by, owes, expects, entry_slot, after_entry, local_place, after_serve, after_hop}
 use Rattle.chip_model.specs.CopiesOwed.{CopiesFit}
-use Rattle.chip_model.specs.OrderedNetwork.{OrderedNetwork, Interface, sources, with_interface, next_request, after_inject, expected_at, expected_at_next_hop, after_copy_hop, after_delivery}
-use Rattle.chip_model.specs.Bookkeeping.{IsInOrder}
+use Rattle.chip_model.specs.OrderedNetwork.{OrderedNetwork, Interface, with_interface, next_request, after_inject, expected_at, expected_at_next_hop, after_copy_hop, after_delivery}
 use Rattle.router_xy.proofs.OwedCounts.{weigh-leave, weigh-arrive}
 use Rattle.router_xy.proofs.Steps.{lowest_is_free, entry_is_free, hops_away}
 use Rattle.router_xy.proofs.LocalPlaces.{local_stands}
@@ -80,7 +78,9 @@ hops_le g r copy = omega (arith, one E, one W, one N, one S)
     one out = cond_le (owes copy out) (behind g copy.request.source r out)
 
 abbrev hops_in : Grid → ℕ → ℕ → ℕ → ℕ
-hops_in g r s ports = cond (has ports E) (behind g s r E) 0 + cond (has ports W) (behind g s r W) 0 + cond (has ports N) (behind g s r N) 0 + cond (has ports S) (behind g s r S) 0
+hops_in g r s ports =
+    cond (has ports E) (behind g s r E) 0 + cond (has ports W) (behind g s r W) 0 + cond (has ports N) (behind g s r N) 0 + cond (has ports S)
+    (behind g s r S) 0
 
 hops_owing : (g : Grid) (r p slot : ℕ) (q : Request) (owed : ℕ) → weight (hop_weight g r p slot) (copy_owing q owed) ≡ hops_in g r q.source owed
 hops_owing g r p slot q owed = by owed (owed == 0) refl
@@ -108,11 +108,16 @@ by_side g s r S = behind g s r S
 
 hops_without : (g : Grid) (r s ports : ℕ) (out : Port) → ports < 32 → has ports out ≡ true
     → hops_in g r s ports ≡ hops_in g r s (without_port ports out) + by_side g s r out
-hops_without g r s ports L below owed = rw (has-without_port ports E L, has-without_port ports W L, has-without_port ports N L, has-without_port ports S L) (omega (arith, keeps, loses))
-hops_without g r s ports E below owed = rw (has-without_port ports E E, has-without_port ports W E, has-without_port ports N E, has-without_port ports S E, owed) (omega (arith, keeps, loses))
-hops_without g r s ports W below owed = rw (has-without_port ports E W, has-without_port ports W W, has-without_port ports N W, has-without_port ports S W, owed) (omega (arith, keeps, loses))
-hops_without g r s ports N below owed = rw (has-without_port ports E N, has-without_port ports W N, has-without_port ports N N, has-without_port ports S N, owed) (omega (arith, keeps, loses))
-hops_without g r s ports S below owed = rw (has-without_port ports E S, has-without_port ports W S, has-without_port ports N S, has-without_port ports S S, owed) (omega (arith, keeps, loses))
+hops_without g r s ports L below owed =
+    rw (has-without_port ports E L, has-without_port ports W L, has-without_port ports N L, has-without_port ports S L) (omega (arith, keeps, loses))
+hops_without g r s ports E below owed =
+    rw (has-without_port ports E E, has-without_port ports W E, has-without_port ports N E, has-without_port ports S E, owed) (omega (arith, keeps, loses))
+hops_without g r s ports W below owed =
+    rw (has-without_port ports E W, has-without_port ports W W, has-without_port ports N W, has-without_port ports S W, owed) (omega (arith, keeps, loses))
+hops_without g r s ports N below owed =
+    rw (has-without_port ports E N, has-without_port ports W N, has-without_port ports N N, has-without_port ports S N, owed) (omega (arith, keeps, loses))
+hops_without g r s ports S below owed =
+    rw (has-without_port ports E S, has-without_port ports W S, has-without_port ports N S, has-without_port ports S S, owed) (omega (arith, keeps, loses))
 
 pub hops_left : (g : Grid) (r p slot : ℕ) (out : Port) (copy : NetCopy) → bits_of copy.owed < 32 → owes copy out ≡ true
     → hops_of g r copy ≡ weight (hop_weight g r p slot) (left_by out copy) + by_side g copy.request.source r out
@@ -145,7 +150,8 @@ hop_is g net new r port slot out expected =
     after copy to entry = put (put net r (port_number port) slot (left_by out copy)) to (port_number (opposite out)) entry (Some (arriving g to copy.request))
 
     owing : (copy : NetCopy) → at net r (port_number port) slot ≡ Some copy → (b : Bool) → owes copy out ≡ b → (n : Network NetCopy)
-        → when b (neighbour g r out >>= (λ to. entry_slot (channels_of net to) (opposite out) (expects expected copy.request) >>= (λ entry. Some (after copy to entry)))) ≡ Some n → P n
+        → when b (neighbour g r out >>= (λ to. entry_slot (channels_of net to) (opposite out)
+        (expects expected copy.request) >>= (λ entry. Some (after copy to entry)))) ≡ Some n → P n
     owing copy stands true owed n last =
         bind_eq P (neighbour g r out) _ (λ to near m rest. bind_eq P (entry_slot (channels_of net to) (opposite out) (expects expected copy.request)) _
         (λ entry found k done. made P (after copy to entry) k (record {
@@ -175,8 +181,11 @@ hopped_lowers g net new r port slot out expected some fits hops =
     let copy = hop.copy in
     let on = fits.stand r (port_number port) slot copy hop.stands in
     let mid = put net r (port_number port) slot (left_by out copy) in
-    let leaves = weigh-leave (hop_weight g) net r (port_number port) slot copy (left_by out copy) (by_side g copy.request.source r out) hop.stands (hops_left g r (port_number port) slot out copy on.ports hop.owed) in
-    let other : get_or mid hop.to [] ≡ get_or net hop.to [] = bank-put_other net r (port_number port) slot (left_by out copy) hop.to (hops_away g r out hop.to some hop.near) in
+    let leaves =
+    weigh-leave (hop_weight g) net r (port_number port) slot copy (left_by out copy) (by_side g copy.request.source r out) hop.stands
+    (hops_left g r (port_number port) slot out copy on.ports hop.owed) in
+    let other : get_or mid hop.to [] ≡ get_or net hop.to [] =
+    bank-put_other net r (port_number port) slot (left_by out copy) hop.to (hops_away g r out hop.to some hop.near) in
     let free : IsFree (channels_of mid hop.to) (port_number (opposite out)) hop.entry = rw other hop.free in
     let come = arriving g hop.to copy.request in
     let arrives = weigh-arrive (hop_weight g) mid hop.to (port_number (opposite out)) hop.entry come free in
@@ -192,7 +201,9 @@ unfolding after_copy_hop requests_to_go
 hop_lowers chip net new r port slot out some fits =
     bind_eq (Lowers chip net) (after_hop chip.grid net.copies r port slot out (expected_at_next_hop chip net r out)) _
     (λ copies hops n is. made (Lowers chip net) (record net { copies = copies }) n
-    (let less = hopped_lowers chip.grid net.copies copies r port slot out (expected_at_next_hop chip net r out) some fits hops in record { ordered = refl; lowers = omega arith }) is)
+    (let less =
+    hopped_lowers chip.grid net.copies copies r port slot out
+    (expected_at_next_hop chip net r out) some fits hops in record { ordered = refl; lowers = omega arith }) is)
     new
 
 -- ---- a request is made
@@ -211,7 +222,9 @@ unfolding after_entry
 entered_grows g net new q inside =
     bind_eq P (lowest_free (channels_of net q.source) (port_number L)) _
     (λ slot lowest n is. made P (put net q.source (port_number L) slot (Some (arriving g q.source q))) n
-    (let arrives = weigh-arrive (hop_weight g) net q.source (port_number L) slot (arriving g q.source q) (lowest_is_free (channels_of net q.source) (port_number L) slot lowest) in
+    (let arrives =
+    weigh-arrive (hop_weight g) net q.source (port_number L) slot (arriving g q.source q)
+    (lowest_is_free (channels_of net q.source) (port_number L) slot lowest) in
     let few = source_hops g q inside in omega arith) is)
     new
   where
@@ -224,7 +237,8 @@ unfolding after_inject requests_to_go
 inject_grows chip net new t kind line interfaces =
     bind_eq (MakesFor chip net) (slice_get net.interfaces t) _
     (λ interface there last done. bind_eq (MakesFor chip net) (after_entry chip.grid net.copies (next_request t interface kind line)) _
-    (λ copies enters n is. made (MakesFor chip net) (with_interface (record net { copies = copies }) t (made_more interface)) n (record { ordered = refl; grows = grows interface copies there enters }) is) last done)
+    (λ copies enters n is. made (MakesFor chip net) (with_interface (record net { copies = copies }) t (made_more interface)) n
+    (record { ordered = refl; grows = grows interface copies there enters }) is) last done)
     new
   where
     made_more : Interface → Interface
@@ -280,8 +294,11 @@ delivery_lowers chip net t out within fits =
     (λ one serves last is. made P (one.0, with_interface (record net { copies = one.1 }) t (delivered_more interface)) last
     (let less = within interface there in
     let same = served_same chip.grid net.copies t name one fits serves in
-    let prices = sum_by-set (λ (interface : Interface). per_made chip * (length interface.made - interface.posted)) net.interfaces t interface (delivered_more interface) there in
-    let deliveries = sum_by-set (λ (interface : Interface). length net.ordered - interface.delivered) net.interfaces t interface (delivered_more interface) there in
+    let prices =
+    sum_by-set (λ (interface : Interface). per_made chip * (length interface.made - interface.posted)) net.interfaces t interface
+    (delivered_more interface) there in
+    let deliveries =
+    sum_by-set (λ (interface : Interface). length net.ordered - interface.delivered) net.interfaces t interface (delivered_more interface) there in
     record { ordered = refl; lowers = omega arith }) is)
     last done) last done)
     out

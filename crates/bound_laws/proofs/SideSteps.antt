@@ -55,13 +55,15 @@ unit_with unit outcome = (performed unit (with_side outcome.side unit.node, outc
 
 -- with what is sent, a step leaves no more than before and so much
 pub record SideGrows (unit : UnitState) (outcome : Outcome) (more : ℕ) : Type 0 where
-  pub grows : side_to_go unit.node.chip unit.node.tile outcome.side + sends_to_go unit.node.chip.grid unit.node.tile outcome.sends + core_to_go unit.node.chip (unit_with unit outcome)
+  pub grows : side_to_go unit.node.chip unit.node.tile outcome.side + sends_to_go unit.node.chip.grid unit.node.tile outcome.sends + core_to_go unit.node.chip
+      (unit_with unit outcome)
       ≤ side_to_go unit.node.chip unit.node.tile unit.node.side + core_to_go unit.node.chip unit + more
 
 -- a step by which no access is done
 pub side_stays : (unit : UnitState) (side : CacheSide) (sends : List Msg) (more : ℕ) → is_some side.misses.demand ≡ is_some unit.node.side.misses.demand
     → TakesAll unit.node.chip unit.node.side.cache side.cache
-    → side_to_go unit.node.chip unit.node.tile side + sends_to_go unit.node.chip.grid unit.node.tile sends ≤ side_to_go unit.node.chip unit.node.tile unit.node.side + more
+    → side_to_go unit.node.chip unit.node.tile side + sends_to_go unit.node.chip.grid unit.node.tile sends
+    ≤ side_to_go unit.node.chip unit.node.tile unit.node.side + more
     → SideGrows unit (record { side = side; sends = sends; done = None }) more
 side_stays unit side sends more same takes less = record { grows = let core = core_side unit.node.chip unit side same takes in omega arith }
 
@@ -88,7 +90,8 @@ Waits unit = (demand : Demand) → unit.node.side.misses.demand ≡ Some demand 
 completes : (unit : UnitState) (demand : Demand) (place : ℕ) (words : List ℕ) → Waits unit → unit.node.side.misses.demand ≡ Some demand
     → SideGrows unit (completed unit.node.chip demand place words unit.node.side) 0
 completes unit demand place words waits stands =
-    cond_both (is_getm demand.kind) (completed_store chip demand place words side) (completed_load chip demand place words side) (λ outcome. SideGrows unit outcome 0)
+    cond_both (is_getm demand.kind) (completed_store chip demand place words side) (completed_load chip demand place words side)
+    (λ outcome. SideGrows unit outcome 0)
     (λ writes. record {
       grows =
           let core = goes_on (completed_store chip demand place words side).side in
@@ -114,7 +117,8 @@ completes unit demand place words waits stands =
     goes_on after =
         let known = waits demand stands in
         let at = access_done chip unit.program unit.core demand.pending known.access in
-        core_goes_on chip unit (unit_with unit (record { side = after; sends = []; done = Some done })) known.running refl at.inside (let moved = at.place (access_of unit done) refl in omega arith)
+        core_goes_on chip unit (unit_with unit (record { side = after; sends = []; done = Some done })) known.running refl at.inside
+        (let moved = at.place (access_of unit done) refl in omega arith)
 
 -- the demand becomes another one, for which at most so much more is to be sent
 demand_changes : (unit : UnitState) (old new : Demand) (cache : Cache) (more : ℕ) → unit.node.side.misses.demand ≡ Some old
@@ -135,7 +139,8 @@ words_come unit words waits = by unit.node.side.misses.demand refl
     at : (demand : Demand) (ordered : Option ℕ) → unit.node.side.misses.demand ≡ Some demand
         → SideGrows unit (data_at unit.node.chip unit.node.side words demand ordered) 0
     at demand (Some place) stands = completes unit demand place words waits stands
-    at demand None stands = demand_changes unit demand (record demand { early = Some words }) unit.node.side.cache 0 stands (λ line fits. fits) refl (omega arith)
+    at demand None stands =
+        demand_changes unit demand (record demand { early = Some words }) unit.node.side.cache 0 stands (λ line fits. fits) refl (omega arith)
 
     by : (entry : Option Demand) → unit.node.side.misses.demand ≡ entry → SideGrows unit (data_for unit.node.chip unit.node.side words entry) 0
     by None is = side_stays unit unit.node.side [] 0 refl (λ line fits. fits) (omega arith)
@@ -148,7 +153,8 @@ own_get_comes unit place waits = by unit.node.side.misses.demand refl
     ordered : (demand : Demand) (words : Option (List ℕ)) → unit.node.side.misses.demand ≡ Some demand
         → SideGrows unit (ordered_with unit.node.chip unit.node.side place demand words) 0
     ordered demand (Some words) stands = completes unit demand place words waits stands
-    ordered demand None stands = demand_changes unit demand (record demand { ordered = Some place }) unit.node.side.cache 0 stands (λ line fits. fits) refl (omega arith)
+    ordered demand None stands =
+        demand_changes unit demand (record demand { ordered = Some place }) unit.node.side.cache 0 stands (λ line fits. fits) refl (omega arith)
 
     by : (entry : Option Demand) → unit.node.side.misses.demand ≡ entry → SideGrows unit (own_get unit.node.chip unit.node.side place entry) 0
     by None is = side_stays unit unit.node.side [] 0 refl (λ line fits. fits) (omega arith)
@@ -162,7 +168,8 @@ pub record IsInside (unit : UnitState) : Type 0 where
 
 -- the write-back sends its words to the home of its line where its node owns the line
 own_put_comes : (unit : UnitState) (line : ℕ) → IsInside unit → ((back : WriteBack) → unit.node.side.misses.back ≡ Some back → back.line ≡ line)
-    → SideGrows unit (own_put unit.node.chip unit.node.side unit.node.side.misses.back) (cond (is_live_back line unit.node.side.misses.back) (per_answer unit.node.chip) 0)
+    → SideGrows unit (own_put unit.node.chip unit.node.side unit.node.side.misses.back)
+    (cond (is_live_back line unit.node.side.misses.back) (per_answer unit.node.chip) 0)
 own_put_comes unit line inside of = by unit.node.side.misses.back refl
   where
     sent : (back : WriteBack) (live : Bool) → SideGrows unit
@@ -173,8 +180,12 @@ own_put_comes unit line inside of = by unit.node.side.misses.back refl
         })
         (cond live (per_answer unit.node.chip) 0)
     sent back true =
-        side_stays unit (with_back None unit.node.side) (record { to = home unit.node.chip back.line; kind = Back; line = back.line; words = back.words } ∷ []) (per_answer unit.node.chip) refl (λ l fits. fits)
-        (let far = near unit.node.chip unit.node.tile (home unit.node.chip back.line) inside.tiles inside.tile (home_inside unit.node.chip back.line inside.controllers) in omega arith)
+        side_stays unit (with_back None unit.node.side)
+        (record { to = home unit.node.chip back.line; kind = Back; line = back.line; words = back.words } ∷ []) (per_answer unit.node.chip) refl
+        (λ l fits. fits)
+        (let far =
+        near unit.node.chip unit.node.tile (home unit.node.chip back.line) inside.tiles inside.tile
+        (home_inside unit.node.chip back.line inside.controllers) in omega arith)
     sent back false = side_stays unit (with_back None unit.node.side) [] 0 refl (λ l fits. fits) (omega arith)
 
     by : (entry : Option WriteBack) → unit.node.side.misses.back ≡ entry
@@ -223,7 +234,8 @@ read_comes unit q inside source = holding_forms chip side q.line (HeldGrows unit
   owned = λ held there owned. supplies_costs unit q held.words (made_owned chip q.line held.words side) inside source refl refl
       (λ line. fits-installed chip side.cache (record { line = q.line; state = O; words = held.words }) line (ap is_some there));
   live = λ copy back is. supplies_costs unit q back.words side inside source refl refl (λ line fits. fits);
-  write = λ copy back demand is writes goes_on. listed_costs unit q demand side.cache inside source (ordered_is q.line side.misses.demand demand is).stands (λ line fits. fits);
+  write = λ copy back demand is writes goes_on. listed_costs unit q demand side.cache inside source (ordered_is q.line side.misses.demand demand is).stands
+      (λ line fits. fits);
   read = λ copy back demand is reads. nothing_costs unit side.cache (λ line fits. fits);
   ended = λ copy back demand is writes ends. nothing_costs unit side.cache (λ line fits. fits);
   shared = λ copy back demand. nothing_costs unit side.cache (λ line fits. fits);
@@ -240,11 +252,14 @@ write_comes : (unit : UnitState) (q : Request) → IsInside unit → q.source < 
     → HeldGrows unit q GetM (holding unit.node.chip unit.node.side q.line)
 write_comes unit q inside source = holding_forms chip side q.line (HeldGrows unit q GetM) (record {
   owned = λ held there owned. supplies_costs unit q held.words (line_gone chip q.line side) inside source refl refl (fits-without_line chip side.cache q.line);
-  live = λ copy back is. supplies_costs unit q back.words (made_stale side) inside source (ap (λ (n : ℕ). unsent_demand chip side.misses.demand + n) (stale_unsent chip side.misses.back)) refl
+  live = λ copy back is. supplies_costs unit q back.words (made_stale side) inside source
+      (ap (λ (n : ℕ). unsent_demand chip side.misses.demand + n) (stale_unsent chip side.misses.back)) refl
       (λ line fits. fits);
-  write = λ copy back demand is writes goes_on. listed_costs unit q demand (without_line chip q.line side.cache) inside source (ordered_is q.line side.misses.demand demand is).stands
+  write = λ copy back demand is writes goes_on. listed_costs unit q demand (without_line chip q.line side.cache) inside source
+      (ordered_is q.line side.misses.demand demand is).stands
       (fits-without_line chip side.cache q.line);
-  read = λ copy back demand is reads. demand_changes unit demand (record demand { once = true }) side.cache 0 (ordered_is q.line side.misses.demand demand is).stands (λ line fits. fits) refl (omega arith);
+  read = λ copy back demand is reads. demand_changes unit demand (record demand { once = true }) side.cache 0
+      (ordered_is q.line side.misses.demand demand is).stands (λ line fits. fits) refl (omega arith);
   ended = λ copy back demand is writes ends. nothing_costs unit side.cache (λ line fits. fits);
   shared = λ copy back demand. nothing_costs unit (without_line chip q.line side.cache) (fits-without_line chip side.cache q.line);
   absent = λ copy back demand. nothing_costs unit side.cache (λ line fits. fits);
@@ -283,10 +298,12 @@ live_owns false true c n = omega arith
 live_owns false false c n = omega arith
 
 live_price : (unit : UnitState) (line : ℕ)
-    → cond (is_live_back line unit.node.side.misses.back) (per_answer unit.node.chip) 0 ≤ cond (owns unit.node.chip unit.node.side line) (per_answer unit.node.chip) 0
+    → cond (is_live_back line unit.node.side.misses.back) (per_answer unit.node.chip) 0 ≤ cond (owns unit.node.chip unit.node.side line)
+    (per_answer unit.node.chip) 0
 unfolding owns
 live_price unit line =
-    live_owns (is_owned_copy (lookup unit.node.chip unit.node.side.cache line)) (is_live_back line unit.node.side.misses.back) (is_open_write line unit.node.side.misses.demand) (per_answer unit.node.chip)
+    live_owns (is_owned_copy (lookup unit.node.chip unit.node.side.cache line)) (is_live_back line unit.node.side.misses.back)
+    (is_open_write line unit.node.side.misses.demand) (per_answer unit.node.chip)
 
 nothing_le : (b : Bool) (n : ℕ) → 0 ≤ cond b n 0
 nothing_le b n = omega arith
@@ -304,12 +321,15 @@ own_comes unit place q PutM inside waits own meets =
 other_comes : (unit : UnitState) (q : Request) (kind : Kind) → IsInside unit → q.source < tile_count unit.node.chip
     → SideGrows unit (snooped_with unit.node.chip q unit.node.side (holding unit.node.chip unit.node.side q.line) kind) (side_more unit q kind)
 other_comes unit q GetS inside source =
-    subst (λ (b : Bool). SideGrows unit (snooped_with unit.node.chip q unit.node.side (holding unit.node.chip unit.node.side q.line) GetS) (cond b (per_answer unit.node.chip) 0))
+    subst (λ (b : Bool). SideGrows unit (snooped_with unit.node.chip q unit.node.side (holding unit.node.chip unit.node.side q.line) GetS)
+    (cond b (per_answer unit.node.chip) 0))
     (sym (owns_holding unit.node.chip unit.node.side q.line)) (read_comes unit q inside source)
 other_comes unit q GetM inside source =
-    subst (λ (b : Bool). SideGrows unit (snooped_with unit.node.chip q unit.node.side (holding unit.node.chip unit.node.side q.line) GetM) (cond b (per_answer unit.node.chip) 0))
+    subst (λ (b : Bool). SideGrows unit (snooped_with unit.node.chip q unit.node.side (holding unit.node.chip unit.node.side q.line) GetM)
+    (cond b (per_answer unit.node.chip) 0))
     (sym (owns_holding unit.node.chip unit.node.side q.line)) (write_comes unit q inside source)
-other_comes unit q PutM inside source = more_too unit _ 0 (side_more unit q PutM) (omega arith) (put_comes unit q (holding unit.node.chip unit.node.side q.line))
+other_comes unit q PutM inside source =
+    more_too unit _ 0 (side_more unit q PutM) (omega arith) (put_comes unit q (holding unit.node.chip unit.node.side q.line))
 
 -- a request is delivered to the cache side
 pub request_comes : (unit : UnitState) (place : ℕ) (q : Request) → IsInside unit → q.source < tile_count unit.node.chip → Waits unit
@@ -317,7 +337,8 @@ pub request_comes : (unit : UnitState) (place : ℕ) (q : Request) → IsInside 
     → SideGrows unit (after_snoop unit.node.chip unit.node.tile unit.node.side place q) (side_more unit q q.kind)
 unfolding after_snoop
 request_comes unit place q inside source waits meets =
-    cond_both (q.source == unit.node.tile) (own_request unit.node.chip unit.node.side place q.kind) (snooped_with unit.node.chip q unit.node.side (holding unit.node.chip unit.node.side q.line) q.kind)
+    cond_both (q.source == unit.node.tile) (own_request unit.node.chip unit.node.side place q.kind)
+    (snooped_with unit.node.chip q unit.node.side (holding unit.node.chip unit.node.side q.line) q.kind)
     (λ outcome. SideGrows unit outcome (side_more unit q q.kind))
     (λ own. own_comes unit place q q.kind inside waits own (meets (eqb-true q.source unit.node.tile own)))
     (λ other. other_comes unit q q.kind inside source)

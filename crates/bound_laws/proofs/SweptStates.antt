@@ -70,7 +70,8 @@ trying b d budget s event reached within going = by (tries b (chip_of d) s event
     by (leaves is now) = subst (GoesOnTo b d budget s) (sym now) (record { reached = reached; within = within; more = omega arith })
 
 and_on : (b : Behaviour) (d : Doc) (budget : ℕ) (s mid new : ChipState) → GoesOnTo b d budget s mid → GoesOnTo b d budget mid new → GoesOnTo b d budget s new
-and_on b d budget s mid new first then = record { reached = then.reached; within = then.within; more = let more = first.more in let rest = then.more in omega arith }
+and_on b d budget s mid new first then =
+    record { reached = then.reached; within = then.within; more = let more = first.more in let rest = then.more in omega arith }
 
 pub swept_on : (b : Behaviour) (d : Doc) (budget : ℕ) (s : ChipState) (events : List Event) → IsReachable b d s → length s.journal ≤ budget
     → GoesOnTo b d budget s (swept b (chip_of d) budget s events)
@@ -88,7 +89,8 @@ pub swept_more : (b : Behaviour) (d : Doc) (budget : ℕ) (s : ChipState) (event
     → ends budget s ≡ false
     → enabled b (chip_of d) s event ≡ true → Contains events event → length s.journal < length (swept b (chip_of d) budget s events).journal
 swept_more b d budget s [] event reached within going possible (k, inside, is) = absurd (omega arith)
-swept_more b d budget s (first ∷ events) event reached within going possible has = rw going (by (tries b (chip_of d) s first) has (swept_more b d budget s events event reached within going possible))
+swept_more b d budget s (first ∷ events) event reached within going possible has =
+    rw going (by (tries b (chip_of d) s first) has (swept_more b d budget s events event reached within going possible))
   where
     after : ChipState
     after = swept b (chip_of d) budget (tried b (chip_of d) s first) events
@@ -117,7 +119,8 @@ swept_more b d budget s (first ∷ events) event reached within going possible h
 -- ---- a whole sweep
 pub from_any_offset : (events : List Event) (offset : ℕ) (event : Event) → Contains events event → Contains (from_offset events offset) event
 from_any_offset events offset event has =
-    elim (Contains-append_cases (take offset events) (drop offset events) event (subst (λ (list : List Event). Contains list event) (sym (take-append-drop offset events)) has)) [
+    elim (Contains-append_cases (take offset events) (drop offset events) event
+    (subst (λ (list : List Event). Contains list event) (sym (take-append-drop offset events)) has)) [
       | inl before ↦ Contains-append_right (drop offset events) (take offset events) event before
       | inr from ↦ Contains-append_left (drop offset events) (take offset events) event from
     ]
@@ -125,7 +128,8 @@ from_any_offset events offset event has =
 -- ---- sweep after sweep
 -- in a state that is reached and has not ended some slot is possible
 abbrev pub SlotIsPossible : Behaviour → Doc → Type 0
-SlotIsPossible b d = (s : ChipState) → IsReachable b d s → finished s ≡ false → (event : Event) × (enabled b (chip_of d) s event ≡ true) × Contains (slots (chip_of d)) event
+SlotIsPossible b d =
+    (s : ChipState) → IsReachable b d s → finished s ≡ false → (event : Event) × (enabled b (chip_of d) s event ≡ true) × Contains (slots (chip_of d)) event
 
 -- a chip that is never stuck has one
 pub slot_possible : (b : Behaviour) (d : Doc) (s : ChipState) → finished s ≡ false → (finished s ≡ true) ⊎ SomeIsEnabled b (chip_of d) s

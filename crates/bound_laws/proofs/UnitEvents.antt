@@ -66,7 +66,9 @@ data_eject_falls chip s new r port slot of wait =
     (let keeps = message_keeps unit out.0 (wait r unit there) in
     let later = (in_order.received out.0 unit).0 in
     let to_go = subst (λ (c : Chip). unit_to_go c later ≤ unit_to_go c unit) (of r unit there) keeps.to_go in
-    let answers = answers_same chip s (with_acted r (in_order.received out.0 unit) (record s { replies = out.1 })) refl (counts_set s.units r unit later there keeps.delivered) in
+    let answers =
+    answers_same chip s (with_acted r (in_order.received out.0 unit) (record s { replies = out.1 })) refl
+    (counts_set s.units r unit later there keeps.delivered) in
     let units = sum_by-set (unit_to_go chip) s.units r unit later there in
     let lowers = received_lowers chip.grid s.replies r port slot out comes in
     omega arith) is) n last)
@@ -81,7 +83,8 @@ pub record ComesInTurn (s : ChipState) (t : ℕ) (unit : UnitState) (q : Request
   pub tile : unit.node.tile ≡ t
 
 abbrev pub DeliveriesComeNext : Chip → ChipState → Type 0
-DeliveriesComeNext chip s = (t : ℕ) (unit : UnitState) (q : Request) (net : OrderedNetwork) → slice_get s.units t ≡ Some unit → after_delivery chip s.network t ≡ Some (q, net)
+DeliveriesComeNext chip s =
+    (t : ℕ) (unit : UnitState) (q : Request) (net : OrderedNetwork) → slice_get s.units t ≡ Some unit → after_delivery chip s.network t ≡ Some (q, net)
     → ComesInTurn s t unit q
 
 delivers : (s new : ChipState) (tile : ℕ) (unit later : UnitState) → slice_get s.units tile ≡ Some unit → new.units ≡ set s.units tile later
@@ -90,12 +93,14 @@ delivers : (s new : ChipState) (tile : ℕ) (unit later : UnitState) → slice_g
 delivers s new tile unit later there units ordered one = record { ordered = ordered; was = ap count_of there; is = now ∙ one; more = more }
   where
     now : delivered_at new tile ≡ later.node.delivered
-    now = ap (λ (units : List UnitState). count_of (slice_get units tile)) units ∙ ap count_of (slice_get-set_same s.units tile later (slice_get_within s.units tile unit there))
+    now = ap (λ (units : List UnitState). count_of (slice_get units tile)) units ∙ ap count_of
+        (slice_get-set_same s.units tile later (slice_get_within s.units tile unit there))
 
     more : (k : ℕ) → delivered_at s k ≤ delivered_at new k
     more k = ⊎_elim
         (λ (here : k ≡ tile). let was = ap count_of there in let is = now in subst (λ (k : ℕ). delivered_at s k ≤ delivered_at new k) (sym here) (omega arith))
-        (λ (other : k ≢ tile). let same = ap (λ (units : List UnitState). count_of (slice_get units k)) units ∙ ap count_of (slice_get-set_other s.units tile k later other) in omega arith)
+        (λ (other : k ≢ tile). let same =
+        ap (λ (units : List UnitState). count_of (slice_get units k)) units ∙ ap count_of (slice_get-set_other s.units tile k later other) in omega arith)
         (cases_eq k tile)
 
 pub eject_falls : (chip : Chip) (s new : ChipState) (tile : ℕ) → AreOfChip chip s → CopiesFit chip.grid s.network.copies → DeliveriesComeNext chip s
@@ -115,7 +120,8 @@ eject_falls chip s new tile of fits next =
         let grow = delivery_grows s.network.ordered unit out.0 known.comes in
         let step = delivery_lowers chip s.network tile out known.within fits comes in
         let after = with_acted tile (in_order.delivered out.0 unit) (with_network out.1 s) in
-        let answers = answers_fall chip s after tile unit.node.delivered out.0 (delivers s after tile unit later there refl step.ordered grow.delivered) known.next in
+        let answers =
+        answers_fall chip s after tile unit.node.delivered out.0 (delivers s after tile unit later there refl step.ordered grow.delivered) known.next in
         let units = sum_by-set (unit_to_go chip) s.units tile unit later there in
         let lowers = step.lowers in
         let grows = at_tile unit out.0 (of tile unit there) known.tile grow.grows in
@@ -123,7 +129,8 @@ eject_falls chip s new tile of fits next =
       where
         at_tile : (unit : UnitState) (q : Request) → unit.node.chip ≡ chip → unit.node.tile ≡ tile
             → unit_to_go unit.node.chip (in_order.delivered q unit).0 ≤ unit_to_go unit.node.chip unit
-            + per_answer unit.node.chip * count_if (is_by unit.node.tile (answerer unit.node.chip q (owner q.line (take unit.node.delivered s.network.ordered))))
+            + per_answer unit.node.chip * count_if
+            (is_by unit.node.tile (answerer unit.node.chip q (owner q.line (take unit.node.delivered s.network.ordered))))
             → unit_to_go chip (in_order.delivered q unit).0 ≤ unit_to_go chip unit
             + per_answer chip * count_if (is_by tile (answerer chip q (owner q.line (take unit.node.delivered s.network.ordered))))
         at_tile unit q same own grows =

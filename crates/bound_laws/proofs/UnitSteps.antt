@@ -40,7 +40,8 @@ stepped node side records out delivered = record node { side = side; records = r
 
 -- what the core has still to do does not depend on records and queue
 same_core : (unit : UnitState) (side : CacheSide) (records : Records) (out : List Msg) (delivered : ℕ) (done : Option Done)
-    → core_to_go unit.node.chip (performed unit (stepped unit.node side records out delivered, done)).0 ≡ core_to_go unit.node.chip (performed unit (with_side side unit.node, done)).0
+    → core_to_go unit.node.chip (performed unit (stepped unit.node side records out delivered, done)).0 ≡ core_to_go unit.node.chip
+    (performed unit (with_side side unit.node, done)).0
 unfolding core_to_go
 same_core unit side records out delivered None = refl
 same_core unit side records out delivered (Some done) = refl
@@ -51,7 +52,8 @@ unit_grows : (unit : UnitState) (outcome : Outcome) (records : Records) (out : L
     → sum_by (record_promises unit.node.chip.grid unit.node.tile) records + sends_to_go unit.node.chip.grid unit.node.tile out
     ≤ sum_by (record_promises unit.node.chip.grid unit.node.tile) unit.node.records + sends_to_go unit.node.chip.grid unit.node.tile unit.node.out
     + sends_to_go unit.node.chip.grid unit.node.tile outcome.sends + home_more
-    → unit_to_go unit.node.chip (performed unit (stepped unit.node outcome.side records out delivered, outcome.done)).0 ≤ unit_to_go unit.node.chip unit + (side_more + home_more)
+    → unit_to_go unit.node.chip (performed unit (stepped unit.node outcome.side records out delivered, outcome.done)).0
+    ≤ unit_to_go unit.node.chip unit + (side_more + home_more)
 unfolding node_to_go
 unit_grows unit outcome records out delivered side_more home_more side home =
     let core = same_core unit outcome.side records out delivered outcome.done in
@@ -90,7 +92,9 @@ message_keeps unit msg waits = by msg.kind
       to_go =
           let answers = back_arrived msg.line msg.words node.records in
           let home = words_at_home node.chip.grid node.tile msg.line msg.words node.records in
-          let grows = unit_grows unit (quiet node.side) answers.records (node.out ++ answers.sends) node.delivered 0 0 (side_stays unit node.side [] 0 refl (λ line fits. fits) (omega arith))
+          let grows =
+          unit_grows unit (quiet node.side) answers.records (node.out ++ answers.sends) node.delivered 0 0
+          (side_stays unit node.side [] 0 refl (λ line fits. fits) (omega arith))
           (omega (arith, sum_by-append (λ (msg : Msg). 2 + distance node.chip.grid node.tile msg.to) node.out answers.sends)) in
           omega arith;
     }
@@ -122,7 +126,8 @@ none_else false = refl
 
 -- of a get the supplier
 get_answer : (ordered : List Request) (unit : UnitState) (q : Request) → ComesNext ordered unit q
-    → cond (owns unit.node.chip unit.node.side q.line) (per_answer unit.node.chip) 0 + cond (is_from_memory (slice_index_or unit.node.records q.line None)) (per_answer unit.node.chip) 0
+    → cond (owns unit.node.chip unit.node.side q.line) (per_answer unit.node.chip) 0 + cond (is_from_memory (slice_index_or unit.node.records q.line None))
+    (per_answer unit.node.chip) 0
     ≡ per_answer unit.node.chip * count_if (is_by unit.node.tile (Some (supplier unit.node.chip q.line (owner q.line (take unit.node.delivered ordered)))))
 get_answer ordered unit q next =
     let here = supplier_here ordered q unit.node (per_answer unit.node.chip) next.fits next.owns next.line in
@@ -139,12 +144,15 @@ put_by t source n o = by (source == t) refl
     own false = omega arith
 
     by : (same : Bool) → (source == t) ≡ same → cond (is_tile t o) (cond same n 0) 0 ≤ n * count_if (is_by t (if is_tile source o then Some source else None))
-    by true is = subst (λ (u : ℕ). cond (is_tile t o) n 0 ≤ n * count_if (is_by t (if is_tile u o then Some u else None))) (sym (eqb-true source t is)) (own (is_tile t o))
+    by true is =
+        subst (λ (u : ℕ). cond (is_tile t o) n 0 ≤ n * count_if (is_by t (if is_tile u o then Some u else None))) (sym (eqb-true source t is))
+        (own (is_tile t o))
     by false is = let none = none_else (is_tile t o) in omega arith
 
 put_answer : (ordered : List Request) (unit : UnitState) (q : Request) → ComesNext ordered unit q
     → side_more unit q PutM + cond (is_from_memory (slice_index_or unit.node.records q.line None)) 0 0
-    ≤ per_answer unit.node.chip * count_if (is_by unit.node.tile (if is_tile q.source (owner q.line (take unit.node.delivered ordered)) then Some q.source else None))
+    ≤ per_answer unit.node.chip * count_if
+    (is_by unit.node.tile (if is_tile q.source (owner q.line (take unit.node.delivered ordered)) then Some q.source else None))
 put_answer ordered unit q next =
     let same = ap (λ (b : Bool). cond b (side_price unit q PutM) 0) (next.owns.lines q.line) in
     let price = put_by unit.node.tile q.source (per_answer unit.node.chip) (owner q.line (take unit.node.delivered ordered)) in
@@ -170,7 +178,8 @@ delivery_grows ordered unit q next = record {
       let home = request_at_home node.chip node.tile q node.records next.inside.tiles next.inside.tile next.source in
       let side = request_comes unit node.delivered q next.inside next.source next.waits next.own in
       let home_more = cond (is_from_memory (slice_index_or node.records q.line None)) (home_price node.chip q.kind) 0 in
-      let grows = unit_grows unit outcome answers.records (node.out ++ outcome.sends ++ answers.sends) (node.delivered + 1) (side_more unit q q.kind) home_more side
+      let grows =
+      unit_grows unit outcome answers.records (node.out ++ outcome.sends ++ answers.sends) (node.delivered + 1) (side_more unit q q.kind) home_more side
       (omega (
         arith,
         sum_by-append (λ (msg : Msg). 2 + distance node.chip.grid node.tile msg.to) (node.out ++ outcome.sends) answers.sends,

@@ -36,7 +36,8 @@ pub take_lowers : (chip : Chip) (net new : OrderedNetwork) (t : ℕ) → after_v
 unfolding after_vector_take requests_to_go
 take_lowers chip net new t =
     bind_eq (Lowers chip net) (after_take net.windows t) _
-    (λ windows takes n is. made (Lowers chip net) (record net { windows = windows }) n (let less = taken_lowers chip net.windows windows t takes in record { ordered = refl; lowers = omega arith }) is)
+    (λ windows takes n is. made (Lowers chip net) (record net { windows = windows }) n
+    (let less = taken_lowers chip net.windows windows t takes in record { ordered = refl; lowers = omega arith }) is)
     new
 
 -- ---- how many tiles posted
@@ -76,7 +77,13 @@ one_more posts t (x ∷ xs) =
     let rest = one_more posts t xs in
     let first : cond (has_tile (bit_or (2 ^ t) posts) x) 1 0 ≤ cond (has_tile posts x) 1 0 + cond (t == x) 1 0 =
     rw (has_tile-or (2 ^ t) posts x, has_tile-one t x) (either (t == x) (has_tile posts x)) in
-    omega (arith, sum_by-cons (λ s. cond (has_tile (bit_or (2 ^ t) posts) s) 1 0) x xs, sum_by-cons (λ s. cond (has_tile posts s) 1 0) x xs, sum_by-cons (λ s. cond (t == s) 1 0) x xs)
+    omega (
+      arith,
+      sum_by-cons (λ s. cond (has_tile (bit_or (2 ^ t) posts) s) 1 0) x xs,
+      sum_by-cons (λ s. cond (has_tile posts s) 1 0) x xs,
+      sum_by-cons
+          (λ s. cond (t == s) 1 0) x xs,
+    )
 
 posted-more : (chip : Chip) (w : Windows) (t : ℕ) → posted_count chip (record w { posts = bit_or (2 ^ t) w.posts }) ≤ posted_count chip w + 1
 posted-more chip w t = let more = one_more w.posts t (upwards 0 (tile_count chip)) in let single = once t 0 (tile_count chip) in omega arith
@@ -116,7 +123,9 @@ post_lowers chip net new t =
 
     guarded : (interface : Interface) → slice_get net.interfaces t ≡ Some interface → (more : Bool) → nat_lt interface.posted (length interface.made) ≡ more
         → (n : OrderedNetwork) → cond more (after_post net.windows t >>= (λ windows. Some (after interface windows))) None ≡ Some n → Lowers chip net n
-    guarded interface there true is n last = bind_eq (Lowers chip net) (after_post net.windows t) _ (λ windows posts m done. made (Lowers chip net) (after interface windows) m (lowers interface windows there (ltb-true _ _ is) posts) done) n last
+    guarded interface there true is n last =
+        bind_eq (Lowers chip net) (after_post net.windows t) _
+        (λ windows posts m done. made (Lowers chip net) (after interface windows) m (lowers interface windows there (ltb-true _ _ is) posts) done) n last
     guarded interface there false is n last = cc
 
 -- ---- how many requests a window orders
@@ -150,7 +159,9 @@ closed_none : (chip : Chip) (w : Windows) → length w.taken ≡ tile_count chip
 closed_none chip w tiles =
     let none = posted-none chip (window_closed w) refl in
     let free = ap (λ (count : ℕ). per_posted chip * count) none in
-    let vectors = sum_rises (λ count. length (w.closed ++ w.posts ∷ []) - count) (λ count. length w.closed - count) 1 w.taken (λ count. omega (arith, length-append w.closed (w.posts ∷ []))) in
+    let vectors =
+    sum_rises (λ count. length (w.closed ++ w.posts ∷ []) - count) (λ count. length w.closed - count) 1 w.taken
+    (λ count. omega (arith, length-append w.closed (w.posts ∷ []))) in
     omega arith
 
 open_window : (chip : Chip) (w : Windows) → 0 < w.posts → is_last_tick chip.window w ≡ true → window_to_go chip w ≡ 1 + tile_count chip
@@ -159,7 +170,8 @@ open_window chip w some last = rw (lt-ltb 0 w.posts some) (let ends = eqb-true (
 deliveries_grow : (net : OrderedNetwork) (windows : Windows) (more : List Request)
     → deliveries_to_go (record net { windows = windows; ordered = net.ordered ++ more }) ≤ deliveries_to_go net + length more * length net.interfaces
 deliveries_grow net windows more =
-    sum_rises (λ (interface : Interface). length (net.ordered ++ more) - interface.delivered) (λ (interface : Interface). length net.ordered - interface.delivered) (length more) net.interfaces
+    sum_rises (λ (interface : Interface). length (net.ordered ++ more) - interface.delivered)
+    (λ (interface : Interface). length net.ordered - interface.delivered) (length more) net.interfaces
     (λ interface. omega (arith, length-append net.ordered more))
 
 close_lowers : (chip : Chip) (net : OrderedNetwork) → 0 < tile_count chip → length net.windows.taken ≡ tile_count chip
@@ -171,7 +183,8 @@ close_lowers chip net tiles taken interfaces some last = record { more = more; o
     more : List Request
     more = ordered_by_window chip net
 
-    lowers : requests_to_go chip (record net { windows = window_closed net.windows; ordered = net.ordered ++ more }) + per_answer chip * length more < requests_to_go chip net
+    lowers : requests_to_go chip
+        (record net { windows = window_closed net.windows; ordered = net.ordered ++ more }) + per_answer chip * length more < requests_to_go chip net
     lowers =
         let w = net.windows in
         let few = few_ordered chip net tiles in
@@ -189,7 +202,8 @@ pub tick_lowers : (chip : Chip) (net new : OrderedNetwork) → 0 < tile_count ch
 unfolding after_network_tick requests_to_go
 tick_lowers chip net new tiles fits interfaces =
     bind_eq (TickLowers chip net) (after_tick chip.window net.windows) _
-    (λ windows ticks n is. made (TickLowers chip net) (after windows (is_last_tick chip.window net.windows)) n (by windows (tick_is chip.window net.windows windows ticks) (is_last_tick chip.window net.windows) refl) is)
+    (λ windows ticks n is. made (TickLowers chip net) (after windows (is_last_tick chip.window net.windows)) n
+    (by windows (tick_is chip.window net.windows windows ticks) (is_last_tick chip.window net.windows) refl) is)
     new
   where
     after : Windows → Bool → OrderedNetwork

@@ -49,7 +49,8 @@ returns-clause-bounded c = λ d events s fits forward e. let all = within c d ev
 pub returns-clause-full : goal.returns-clause-full
 returns-clause-full c = λ d events s fits forward e same.
     full_finished d s (length events) (within c d events s fits forward e) same
-    (λ new event is. returns-clause-falls c d s new event fits forward (c.reachable_laws.ensures.protocol d events s fits e) (c.reachable_laws.ensures.cores d events s fits e) is)
+    (λ new event is. returns-clause-falls c d s new event fits forward (c.reachable_laws.ensures.protocol d events s fits e)
+    (c.reachable_laws.ensures.cores d events s fits e) is)
     (c.chip_progress_laws.ensures.reached in_order c.behaviour_laws.ensures d events s fits e)
 
 pub returns-clause-rests : goal.returns-clause-rests
