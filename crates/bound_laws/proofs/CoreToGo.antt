@@ -82,7 +82,7 @@ in_program program core runs = by (slice_get program core.place) refl
     by None is = absurd (runs (rw is refl))
     by (Some instr) is = slice_get_within program core.place instr is
 
--- an access of this kind is the next instruction, and the core goes on behind it once it is performed
+-- an access of this kind is the next instruction, and the core goes on to the one after it once it is performed
 pub record IsDoneAt (program : List Instr) (core : CoreState) (kind : AccessKind) : Type 0 where
   pub inside : core.place < length program
   pub place : (access : Access) → access.kind ≡ kind → (core_after program access core).place ≡ core.place + 1

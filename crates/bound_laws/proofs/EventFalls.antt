@@ -26,7 +26,8 @@ use Rattle.chip_model.specs.Suppliers.{count_of}
 use Rattle.net_iface.proofs.Binds.{bind_eq, made}
 use Rattle.net_iface.proofs.Places.{slice_get-set_same, slice_get-set_other}
 use Rattle.chip_laws.proofs.SupplyCounts.{sum_by-set}
-use Rattle.bound_laws.specs.Measure.{per_request, demand_promises, unsent_to_go, node_to_go, core_to_go, unit_to_go, Lowers, Falls}
+use Rattle.bound_laws.specs.Measure.{per_request, demand_promises, unsent_to_go, node_to_go, core_to_go, unit_to_go, Falls}
+use Rattle.bound_laws.proofs.NetworkChanges.{Lowers}
 use Rattle.bound_laws.proofs.CoreToGo.{core_side}
 use Rattle.bound_laws.proofs.WindowSteps.{take_lowers, post_lowers, tick_lowers}
 use Rattle.bound_laws.proofs.RequestSteps.{hop_lowers, inject_grows}

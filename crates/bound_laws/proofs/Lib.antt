@@ -16,3 +16,4 @@ pub mod Journals
 pub mod BoundedRuns
 pub mod SweptStates
 pub mod FinishedRuns
+pub mod NetworkChanges

@@ -32,10 +32,11 @@ use Rattle.router_xy.proofs.Steps.{lowest_is_free, entry_is_free, hops_away}
 use Rattle.router_xy.proofs.LocalPlaces.{local_stands}
 use Rattle.net_iface.proofs.Binds.{bind_eq, made}
 use Rattle.chip_laws.proofs.SupplyCounts.{sum_by-set}
-use Rattle.bound_laws.specs.Measure.{behind, hops_by, hops_of, hop_weight, hops_to_go, requests_to_go, per_made, per_request, Lowers, MakesFor}
+use Rattle.bound_laws.specs.Measure.{tiles_by, hops_by, hops_of, hop_weight, hops_to_go, requests_to_go, per_made, per_request}
+use Rattle.bound_laws.proofs.NetworkChanges.{Lowers, MakesFor}
 use Rattle.bound_laws.proofs.Sums.{counts_one, cond_le, sum_same, sum_ones}
 
--- ---- the tiles behind a router's ports
+-- ---- the tiles that are reached by a router's ports
 abbrev to_each : Grid → ℕ → ℕ → List ℕ → Port → ℕ
 to_each g s r tiles out = count_by (λ tile. covers g s r tile out) tiles
 
@@ -49,7 +50,7 @@ ways_to_all g s r (tile ∷ list) =
     first : (out : Port) → to_each g s r (tile ∷ list) out ≡ count_if (covers g s r tile out) + to_each g s r list out
     first out = sum_by-cons (λ tile. cond (covers g s r tile out) 1 0) tile list
 
--- a router has its own tile behind its local port
+-- a router reaches its own tile by its local port
 present : (t first count : ℕ) → first ≤ t → t < first + count → 0 < count_by (λ s. t == s) (upwards first count)
 present t first zero from to = absurd (omega arith)
 present t first (suc count) from to = by (t == first) refl (λ later. present t (first + 1) count later (omega arith))
@@ -59,28 +60,30 @@ present t first (suc count) from to = by (t == first) refl (λ later. present t 
     by true is rest = let all = sum_by-cons (λ s. cond (t == s) 1 0) first (upwards (first + 1) count) in let here = counts_one (t == first) is in omega arith
     by false is rest = let all = sum_by-cons (λ s. cond (t == s) 1 0) first (upwards (first + 1) count) in let more = rest (grind arith) in omega arith
 
-abbrev sides_behind : Grid → ℕ → ℕ → ℕ
-sides_behind g s r = behind g s r E + behind g s r W + behind g s r N + behind g s r S
+abbrev tiles_by_sides : Grid → ℕ → ℕ → ℕ
+tiles_by_sides g s r = tiles_by g s r E + tiles_by g s r W + tiles_by g s r N + tiles_by g s r S
 
--- behind an edge of the tree stand the router there and what is behind its sides
-behind_edge : (g : Grid) (s r n : ℕ) (out : Port) → HasTiles g → Edge g s r out n → n < tiles g → sides_behind g s n + 1 ≤ behind g s r out
-behind_edge g s r n out some edge inside =
+-- by an edge of the tree the router there is reached, and all that is reached by its sides
+tiles_by_edge : (g : Grid) (s r n : ℕ) (out : Port) → HasTiles g → Edge g s r out n → n < tiles g → tiles_by_sides g s n + 1 ≤ tiles_by g s r out
+tiles_by_edge g s r n out some edge inside =
     let all = ways_to_all g s n (upwards 0 (tiles g)) in
     let here = present n 0 (tiles g) (omega arith) (omega arith) in
     let same = sum_same (outputs_to g s n) (λ v. count_if (covers g s r v out)) (upwards 0 (tiles g)) (λ v. outputs_to-edge g s r n v out some edge) in
     omega arith
 
 -- ---- the hops of a copy
-hops_le : (g : Grid) (r : ℕ) (copy : NetCopy) → hops_of g r copy ≤ sides_behind g copy.request.source r
+hops_le : (g : Grid) (r : ℕ) (copy : NetCopy) → hops_of g r copy ≤ tiles_by_sides g copy.request.source r
 hops_le g r copy = omega (arith, one E, one W, one N, one S)
   where
-    one : (out : Port) → hops_by g r copy out ≤ behind g copy.request.source r out
-    one out = cond_le (owes copy out) (behind g copy.request.source r out)
+    one : (out : Port) → hops_by g r copy out ≤ tiles_by g copy.request.source r out
+    one out = cond_le (owes copy out) (tiles_by g copy.request.source r out)
 
 abbrev hops_in : Grid → ℕ → ℕ → ℕ → ℕ
 hops_in g r s ports =
-    cond (has ports E) (behind g s r E) 0 + cond (has ports W) (behind g s r W) 0 + cond (has ports N) (behind g s r N) 0 + cond (has ports S)
-    (behind g s r S) 0
+    cond (has ports E) (tiles_by g s r E) 0
+    + cond (has ports W) (tiles_by g s r W) 0
+    + cond (has ports N) (tiles_by g s r N) 0
+    + cond (has ports S) (tiles_by g s r S) 0
 
 hops_owing : (g : Grid) (r p slot : ℕ) (q : Request) (owed : ℕ) → weight (hop_weight g r p slot) (copy_owing q owed) ≡ hops_in g r q.source owed
 hops_owing g r p slot q owed = by owed (owed == 0) refl
@@ -90,7 +93,7 @@ hops_owing g r p slot q owed = by owed (owed == 0) refl
     by owed true is = let zero : owed ≡ 0 = grind arith in rw (zero, has-empty E, has-empty W, has-empty N, has-empty S) refl
     by owed false is = refl
 
--- a copy that leaves by a side has what is behind it no more to go, and one that leaves to the tile has as much as before
+-- a copy that leaves by a side has those that are reached by it no more to go, and one that leaves to the tile has as much as before
 keeps : (b : Bool) (n : ℕ) → cond (b && true) n 0 ≡ cond b n 0
 keeps true n = refl
 keeps false n = refl
@@ -101,10 +104,10 @@ loses false n = refl
 
 abbrev by_side : Grid → ℕ → ℕ → Port → ℕ
 by_side g s r L = 0
-by_side g s r E = behind g s r E
-by_side g s r W = behind g s r W
-by_side g s r N = behind g s r N
-by_side g s r S = behind g s r S
+by_side g s r E = tiles_by g s r E
+by_side g s r W = tiles_by g s r W
+by_side g s r N = tiles_by g s r N
+by_side g s r S = tiles_by g s r S
 
 hops_without : (g : Grid) (r s ports : ℕ) (out : Port) → ports < 32 → has ports out ≡ true
     → hops_in g r s ports ≡ hops_in g r s (without_port ports out) + by_side g s r out
@@ -166,12 +169,12 @@ hop_is g net new r port slot out expected =
         }) done) m rest) n last
     owing copy stands false owed n last = cc
 
-side_behind : (g : Grid) (s r to : ℕ) (out : Port) → neighbour g r out ≡ Some to → by_side g s r out ≡ behind g s r out
-side_behind g s r to L near = cc
-side_behind g s r to E near = refl
-side_behind g s r to W near = refl
-side_behind g s r to N near = refl
-side_behind g s r to S near = refl
+by_side_is : (g : Grid) (s r to : ℕ) (out : Port) → neighbour g r out ≡ Some to → by_side g s r out ≡ tiles_by g s r out
+by_side_is g s r to L near = cc
+by_side_is g s r to E near = refl
+by_side_is g s r to W near = refl
+by_side_is g s r to N near = refl
+by_side_is g s r to S near = refl
 
 pub hopped_lowers : (g : Grid) (net new : Network NetCopy) (r : ℕ) (port : Port) (slot : ℕ) (out : Port) (expected : Option Name) → HasTiles g
     → CopiesFit g net → after_hop g net r port slot out expected ≡ Some new
@@ -190,8 +193,8 @@ hopped_lowers g net new r port slot out expected some fits hops =
     let come = arriving g hop.to copy.request in
     let arrives = weigh-arrive (hop_weight g) mid hop.to (port_number (opposite out)) hop.entry come free in
     let edge : Edge g copy.request.source r out hop.to = record { leaves = on.outs out hop.owed; next = hop.near } in
-    let side = side_behind g copy.request.source r hop.to out hop.near in
-    let ahead = behind_edge g copy.request.source r hop.to out some edge (neighbour_inside g r out hop.to some hop.near) in
+    let side = by_side_is g copy.request.source r hop.to out hop.near in
+    let ahead = tiles_by_edge g copy.request.source r hop.to out some edge (neighbour_inside g r out hop.to some hop.near) in
     let few = hops_le g hop.to come in
     subst (λ (new : Network NetCopy). hops_to_go g new < hops_to_go g net) hop.is (omega arith)
 
