@@ -28,7 +28,7 @@ use Rattle.chip_laws.proofs.OrderFrames.{HoldsAt, holds_at}
 use Rattle.bound_laws.specs.Measure.{Falls}
 use Rattle.bound_laws.proofs.EventFalls.{AreOfTiles, tick_falls, post_falls, take_falls, inject_falls, hop_falls, send_falls, data_hop_falls}
 use Rattle.bound_laws.proofs.CoreSteps.{GoesForward}
-use Rattle.bound_laws.proofs.SideSteps.{IsInside}
+use Rattle.bound_laws.proofs.DeliveredSides.{IsInside}
 use Rattle.bound_laws.proofs.UnitEvents.{AreOfChip, AllMayStep, AllWait, DeliveriesComeNext, core_falls, data_eject_falls, eject_falls}
 
 -- the part of what holds in every reachable state on which it stands

@@ -17,7 +17,7 @@ use Rattle.chip_model.specs.Events.{with_network, with_node, with_acted, unit_at
 use Rattle.chip_model.specs.Runs.{noted, after, run, IsReachable}
 use Rattle.chip_laws.proofs.Options.{bind}
 use Rattle.net_iface.proofs.Binds.{bind_eq, made}
-use Rattle.bound_laws.proofs.CoreSteps.{when_some}
+use Rattle.bound_laws.proofs.AccessSteps.{when_some}
 
 -- a step leaves the journal as it is
 abbrev Same : ChipState → ChipState → Type 0

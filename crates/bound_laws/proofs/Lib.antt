@@ -1,4 +1,6 @@
 pub mod Sums
+pub mod NetworkChanges
+pub mod CopyHops
 pub mod RequestSteps
 pub mod WindowSteps
 pub mod MessageSteps
@@ -7,8 +9,10 @@ pub mod CoreToGo
 pub mod OpeningMeasure
 pub mod EventFalls
 pub mod SideSteps
+pub mod DeliveredSides
 pub mod HomeSteps
 pub mod UnitSteps
+pub mod AccessSteps
 pub mod CoreSteps
 pub mod UnitEvents
 pub mod FallingEvents
@@ -16,4 +20,3 @@ pub mod Journals
 pub mod BoundedRuns
 pub mod SweptStates
 pub mod FinishedRuns
-pub mod NetworkChanges

@@ -23,7 +23,8 @@ use Rattle.bound_laws.proofs.AnswerCounts.{is_by, answers_same, Delivers, answer
 use Rattle.bound_laws.proofs.MessageSteps.{received_lowers}
 use Rattle.bound_laws.proofs.RequestSteps.{delivery_lowers}
 use Rattle.bound_laws.proofs.EventFalls.{counts_set}
-use Rattle.bound_laws.proofs.CoreSteps.{MayStep, when_some, stepped_falls}
+use Rattle.bound_laws.proofs.CoreSteps.{MayStep, stepped_falls}
+use Rattle.bound_laws.proofs.AccessSteps.{when_some}
 use Rattle.bound_laws.proofs.SideSteps.{Waits}
 use Rattle.bound_laws.proofs.UnitSteps.{message_keeps, ComesNext, delivery_grows}
 

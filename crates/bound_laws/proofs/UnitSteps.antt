@@ -27,7 +27,8 @@ use Rattle.chip_laws.proofs.SupplyAccounts.{is_from_memory}
 use Rattle.chip_laws.proofs.SupplyDeliveries.{supplier_here}
 use Rattle.bound_laws.specs.Measure.{per_answer, answerer, sends_to_go, record_promises, node_to_go, core_to_go, unit_to_go}
 use Rattle.bound_laws.proofs.AnswerCounts.{is_by}
-use Rattle.bound_laws.proofs.SideSteps.{IsInside, Waits, SideGrows, side_stays, side_price, side_more, words_come, request_comes}
+use Rattle.bound_laws.proofs.SideSteps.{Waits, SideGrows, side_stays, words_come}
+use Rattle.bound_laws.proofs.DeliveredSides.{IsInside, side_price, side_more, request_comes}
 use Rattle.bound_laws.proofs.HomeSteps.{home_price, request_at_home, words_at_home}
 
 performed_node : (unit : UnitState) (node : Node) (done : Option Done) → (performed unit (node, done)).0.node ≡ node
