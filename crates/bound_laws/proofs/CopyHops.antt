@@ -217,7 +217,8 @@ entered_grows g net new q inside =
     P new = hops_to_go g new < hops_to_go g net + tiles g
 
 -- ---- a tile is served
-pub served_same : (g : Grid) (net : Network NetCopy) (t : ℕ) (name : Name) (out : Request × Network NetCopy) → CopiesFit g net → after_serve net t name ≡ Some out
+pub served_same : (g : Grid) (net : Network NetCopy) (t : ℕ) (name : Name) (out : Request × Network NetCopy) → CopiesFit g net
+    → after_serve net t name ≡ Some out
     → hops_to_go g out.1 ≡ hops_to_go g net
 unfolding after_serve
 served_same g net t name out fits =

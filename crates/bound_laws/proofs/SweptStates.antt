@@ -165,6 +165,8 @@ record EndsFrom (b : Behaviour) (d : Doc) (budget : ℕ) (pace : ℕ → ℕ) (f
   is : sweeps b (chip_of d) budget s (map pace (upwards first count)) ≡ last
   made : AllAreMade b (chip_of d) budget s (map pace (upwards first count))
   ended : ends budget last ≡ true
+  few : length s.journal + count ≤ length last.journal
+  within : length last.journal ≤ budget
 
 sweeps_none : (b : Behaviour) (chip : Chip) (budget : ℕ) (s : ChipState) → sweeps b chip budget s [] ≡ s
 unfolding sweeps
@@ -181,7 +183,7 @@ ends_from : (b : Behaviour) (d : Doc) (budget : ℕ) (pace : ℕ → ℕ) (left 
 ends_from b d budget pace zero first s some reached within few = by (ends budget s) refl
   where
     by : (done : Bool) → ends budget s ≡ done → EndsFrom b d budget pace first s
-    by true is = record { count = 0; last = s; is = sweeps_none b (chip_of d) budget s; made = _; ended = is }
+    by true is = record { count = 0; last = s; is = sweeps_none b (chip_of d) budget s; made = _; ended = is; few = omega arith; within = within }
     by false is = absurd (let room = not_spent budget s is within in omega arith)
 ends_from b d budget pace (suc left) first s some reached within few =
     by (ends budget s) refl (λ next_reached next_within next_few. ends_from b d budget pace left (first + 1) new some next_reached next_within next_few)
@@ -192,7 +194,7 @@ ends_from b d budget pace (suc left) first s some reached within few =
     by : (done : Bool) → ends budget s ≡ done
         → (IsReachable b d new → length new.journal ≤ budget → budget ≤ length new.journal + left → EndsFrom b d budget pace (first + 1) new)
         → EndsFrom b d budget pace first s
-    by true is later = record { count = 0; last = s; is = sweeps_none b (chip_of d) budget s; made = _; ended = is }
+    by true is later = record { count = 0; last = s; is = sweeps_none b (chip_of d) budget s; made = _; ended = is; few = omega arith; within = within }
     by false is later =
         let on = swept_on b d budget s (from_offset (slots (chip_of d)) (pace first)) reached within in
         let grows = sweep_grows b d budget (pace first) s some reached within is in
@@ -203,10 +205,34 @@ ends_from b d budget pace (suc left) first s some reached within few =
           is = sweeps_next b (chip_of d) budget s (pace first) (map pace (upwards (first + 1) rest.count)) is ∙ rest.is;
           made = (is, rest.made);
           ended = rest.ended;
+          few = let few = rest.few in omega arith;
+          within = rest.within;
         }
 
 -- whatever the offsets are, a run by sweeps ends
 pub sweeps_end : (b : Behaviour) (d : Doc) (budget : ℕ) (pace : ℕ → ℕ) → SlotIsPossible b d → SweepsEnd b d budget pace
 sweeps_end b d budget pace some =
     let all = ends_from b d budget pace budget 0 (opening d) some (opening_reached b d) (omega arith) (omega arith) in
-    record { sweeps = all.count; state = all.last; swept = record { swept = all.is; made = all.made; ended = all.ended } }
+    record { sweeps = all.count; state = all.last; swept = record { swept = all.is; made = all.made; ended = all.ended }; few = let few = all.few in omega arith; within = all.within }
+
+-- ---- a list of offsets that is long enough
+spent : (budget : ℕ) (s : ChipState) → length s.journal ≤ budget → budget ≤ length s.journal → ends budget s ≡ true
+spent budget s within all = either (length s.journal == budget) (finished s) (eq-eqb (length s.journal) budget (omega arith))
+  where
+    either : (a b : Bool) → a ≡ true → (a || b) ≡ true
+    either true b is = refl
+    either false b is = cc
+
+-- as many sweeps as the budget has events end a run
+pub enough_end : (b : Behaviour) (d : Doc) (budget : ℕ) (s : ChipState) (offsets : List ℕ) → SlotIsPossible b d → IsReachable b d s → length s.journal ≤ budget
+    → budget ≤ length s.journal + length offsets → ends budget (sweeps b (chip_of d) budget s offsets) ≡ true
+unfolding sweeps
+enough_end b d budget s [] some reached within enough = spent budget s within (omega arith)
+enough_end b d budget s (offset ∷ offsets) some reached within enough =
+    let new = swept b (chip_of d) budget s (from_offset (slots (chip_of d)) offset) in
+    cond_both (ends budget s) s (sweeps b (chip_of d) budget new offsets) (λ (last : ChipState). ends budget last ≡ true)
+    (λ ended. ended)
+    (λ going.
+    let on = swept_on b d budget s (from_offset (slots (chip_of d)) offset) reached within in
+    let grows = sweep_grows b d budget offset s some reached within going in
+    enough_end b d budget new offsets some on.reached on.within (omega arith))

@@ -6,7 +6,7 @@ ghost use Rattle.chip_model.specs.Units.{Behaviour, in_order};
 ghost use Rattle.chip_model.specs.ChipState.{ChipState, opening, finished};
 ghost use Rattle.chip_model.specs.Events.{step};
 ghost use Rattle.chip_model.specs.Runs.{enabled, run, IsReachable};
-ghost use Rattle.chip_model.specs.Schedules.{bound, ends, from_offset, slots, swept};
+ghost use Rattle.chip_model.specs.Schedules.{bound, ends, from_offset, slots, sweeps, swept};
 ghost use Rattle.chip_model.specs.Schedules.{IsForward, IsSweptTo};
 ghost use Rattle.chip_model.specs.BehaviourLaws.{KeepsLaws};
 ghost use Rattle.chip_model.specs.ChipInvariant.{CoresInOrder, ProtocolHolds};
@@ -52,6 +52,11 @@ pub fn bound_laws()
     // So whatever offsets a pace gives, the run ends after some number of sweeps.
     ensures ends { (b : Behaviour) (laws : KeepsLaws b) (d : Doc) (budget : ℕ) (pace : ℕ → ℕ)
         → DocFits d → SweepsEnd b d budget pace }
+
+    // As many offsets as the budget has events are enough for any run.
+    ensures enough { (b : Behaviour) (laws : KeepsLaws b) (d : Doc) (budget : ℕ) (offsets : List ℕ)
+        → DocFits d → budget ≤ length offsets
+        → ends budget (sweeps b (chip_of d) budget (opening d) offsets) ≡ true }
 
     // A budget of at least the bound is not what ends it: the chip is finished.
     ensures ample { (d : Doc) (budget : ℕ) (offsets : List ℕ) (s : ChipState) → DocFits d

@@ -13,7 +13,8 @@ use Rattle.bound_laws.specs.Measure.{measure}
 use Rattle.bound_laws.proofs.OpeningMeasure.{opening_below}
 use Rattle.bound_laws.proofs.FallingEvents.{OwnRequestsFit, event_falls, may_fall}
 use Rattle.bound_laws.proofs.BoundedRuns.{RunLaws, run_falls}
-use Rattle.bound_laws.proofs.SweptStates.{SlotIsPossible, slot_possible, sweep_grows, sweeps_end}
+use Rattle.bound_laws.proofs.Journals.{opening_reached}
+use Rattle.bound_laws.proofs.SweptStates.{SlotIsPossible, slot_possible, sweep_grows, sweeps_end, enough_end}
 use Rattle.bound_laws.proofs.FinishedRuns.{full_finished, rest_finished, ample_finished}
 use Rattle.bound_laws.proofs.laws.bound_laws.Goals as goal
 
@@ -72,3 +73,7 @@ pub returns-clause-ample : goal.returns-clause-ample
 returns-clause-ample c = λ d budget offsets s fits forward ample swept.
     ample_finished d budget offsets s ample swept
     (λ events e. (returns-clause-bounded c d events s fits forward e, λ same. returns-clause-full c d events s fits forward e same))
+
+pub returns-clause-enough : goal.returns-clause-enough
+returns-clause-enough c = λ b laws d budget offsets fits enough.
+    enough_end b d budget (opening d) offsets (some_slot c b laws d fits) (opening_reached b d) (omega arith) (omega arith)
