@@ -21,6 +21,7 @@ use Rattle.chip_model.specs.Node.{words_at, record_at}
 use Rattle.chip_model.specs.Units.{opening_unit}
 use Rattle.chip_model.specs.ChipState.{opening, program_of}
 use Rattle.chip_model.specs.Schedules.{bound}
+use Rattle.flow_laws.proofs.ListSums.{sum_none}
 use Rattle.bound_laws.specs.Measure.{per_posted, per_made, per_instruction, hop_weight, reply_weight, requests_to_go, answers_to_go, replies_to_go, record_promises, node_to_go, instructions_to_go, core_to_go, unit_to_go, measure}
 use Rattle.bound_laws.proofs.WindowSteps.{posted-none}
 use Rattle.bound_laws.proofs.CoreToGo.{instructions_le}
@@ -33,10 +34,6 @@ sum_replicate f (suc n) x none = let rest = sum_replicate f n x none in omega (a
 sum_map : {X Y : Type 0} (f : Y → ℕ) (g : X → Y) (xs : List X) → sum_by f (map g xs) ≡ sum_by (λ x. f (g x)) xs
 sum_map f g [] = refl
 sum_map f g (x ∷ xs) = let rest = sum_map f g xs in omega (arith, sum_by-cons f (g x) (map g xs), sum_by-cons (λ x. f (g x)) x xs)
-
-sum_nothing : {X : Type 0} (f : X → ℕ) (xs : List X) → ((x : X) → f x ≡ 0) → sum_by f xs ≡ 0
-sum_nothing f [] none = refl
-sum_nothing f (x ∷ xs) none = let rest = sum_nothing f xs none in let first = none x in omega (arith, sum_by-cons f x xs)
 
 -- where each part is at most a price for each of some and one more, so is the sum
 sum_priced : {X : Type 0} (f h : X → ℕ) (price : ℕ) (xs : List X) → ((x : X) → f x ≤ price * h x + price)
@@ -67,7 +64,7 @@ shifted g x d xs first (suc count) =
     )
 
 none_there : {X : Type 0} (g : X → ℕ) (d : X) (list : List ℕ) → g d ≡ 0 → sum_by (λ t. g (get_or [] t d)) list ≡ 0
-none_there g d list none = sum_nothing (λ t. g (get_or [] t d)) list (λ t. none)
+none_there g d list none = sum_none (λ t. g (get_or [] t d)) list (λ k t there. none)
 
 sum_at : {X : Type 0} (g : X → ℕ) (d : X) (xs : List X) (count : ℕ) → g d ≡ 0 → sum_by (λ t. g (get_or xs t d)) (upwards 0 count) ≤ sum_by g xs
 sum_at g d [] count none = let all = none_there g d (upwards 0 count) none in omega arith
@@ -119,7 +116,7 @@ unfolding node_to_go core_to_go
 unit_opens chip tile program memory =
     let unit = opening_unit chip tile program memory in
     let records = sum_map (record_promises chip.grid tile) (record_at chip tile memory) (upwards 0 chip.lines) in
-    let none = sum_nothing (λ line. record_promises chip.grid tile (record_at chip tile memory line)) (upwards 0 chip.lines) (no_promises chip memory tile) in
+    let none = sum_none (λ line. record_promises chip.grid tile (record_at chip tile memory line)) (upwards 0 chip.lines) (λ k line there. no_promises chip memory tile line) in
     let rest : instructions_to_go chip unit ≤ per_instruction chip * (length program - 0) = instructions_le chip unit in
     let whole : length program - 0 ≡ length program = omega arith in
     let price = ap (λ (n : ℕ). per_instruction chip * n) whole in

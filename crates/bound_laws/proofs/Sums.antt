@@ -1,6 +1,5 @@
 -- Sums over lists that a step changes.
 use Rattle.std.proofs.Common.{◌≡◌, ℕ, zero, suc, ◌+◌, ◌-◌, ◌*◌, ◌<◌, ◌≤◌, Bool, true, false, cond, List, [], ◌∷◌, Option, Some, None, length, refl, arith}
-use Rattle.std.specs.Prelude.{slice_get, count_by}
 use Rattle.std.specs.List.{sum_by, filter_map, cons_option}
 use Rattle.std.proofs.Math.Nat.{mul-add}
 use Rattle.std.proofs.lemmas.List.Sums.{sum_by-cons}
@@ -46,14 +45,6 @@ length-filter_map-le {X} {Y} h (x ∷ xs) = by (h x) (length-filter_map-le h xs)
     by : (first : Option Y) → length (filter_map h xs) ≤ length xs → length (cons_option first (filter_map h xs)) ≤ length (x ∷ xs)
     by None rest = omega arith
     by (Some y) rest = omega arith
-
--- what nothing passes counts nothing
-pub count_none : {X : Type 0} (p : X → Bool) (xs : List X) → ((k : ℕ) (x : X) → slice_get xs k ≡ Some x → p x ≡ false) → count_by p xs ≡ 0
-count_none p [] none = refl
-count_none p (x ∷ xs) none =
-    let rest = count_none p xs (λ k y there. none (suc k) y there) in
-    let first = counts_none (p x) (none 0 x refl) in
-    omega (arith, sum_by-cons (λ x. cond (p x) 1 0) x xs)
 
 -- where each part is at most one, the sum is at most their number
 pub sum_ones : (f : ℕ → ℕ) (first count : ℕ) → ((x : ℕ) → f x ≤ 1) → sum_by f (upwards first count) ≤ count

@@ -19,7 +19,7 @@ use Rattle.window_core.proofs.Holds.{post_is, tick_is}
 use Rattle.chip_laws.proofs.SupplyCounts.{sum_by-set, upwards-append}
 use Rattle.bound_laws.specs.Measure.{per_answer, per_posted, per_made, posted_count, window_to_go, vectors_to_go, deliveries_to_go, windows_to_go, requests_to_go}
 use Rattle.bound_laws.proofs.NetworkChanges.{Lowers, TickLowers}
-use Rattle.bound_laws.proofs.Sums.{count_none}
+use Rattle.flow_laws.proofs.ListSums.{count_none}
 use Rattle.bound_laws.proofs.Sums.{counts_one, counts_none, cond_le, sum_rises, product_falls, length-filter_map-le}
 
 -- ---- a take
