@@ -1,4 +1,4 @@
--- What is still to be answered, where a step orders more requests and delivers none.
+-- What is still to be answered: as much more as a step orders, and one less where a tile delivers a request that it answers.
 use Rattle.std.proofs.Common.{◌≡◌, ◌⊎◌, ℕ, zero, suc, ◌+◌, ◌*◌, ◌<◌, ◌≤◌, Bool, true, false, cond, List, [], ◌++◌, take, Option, Some, None, length, refl, sym, ◌∙◌, ap, subst, arith, append-nil, length-append, inl, inr, eqb-true}
 use Rattle.std.proofs.lemmas.Bool.{cases_lt}
 use Rattle.std.proofs.lemmas.Bool.Decides.{nat_tests}
@@ -54,8 +54,8 @@ unfolding answers_to_go
 answers_grow chip s new more ordered same =
     let longer : length new.network.ordered ≡ length s.network.ordered + length more = ap length ordered ∙ length-append s.network.ordered more in
     let parts =
-    ap (λ (count : ℕ). count_by (is_to_answer chip new) (upwards 0 count)) longer ∙ count-split (is_to_answer chip new) (length s.network.ordered)
-    (length more) in
+    ap (λ (count : ℕ). count_by (is_to_answer chip new) (upwards 0 count)) longer
+    ∙ count-split (is_to_answer chip new) (length s.network.ordered) (length more) in
     let old =
     count_by-same (is_to_answer chip new) (is_to_answer chip s) 0 (length s.network.ordered)
     (λ place from to. same_answer chip s new more place ordered same (omega arith)) in
@@ -96,13 +96,13 @@ count_falls p q place less first (suc count) from to each at =
     by : (first < place) ⊎ (place ≤ first) → (first < place → count_by p (upwards (first + 1) count) + less ≤ count_by q (upwards (first + 1) count))
         → count_by p (upwards first (suc count)) + less ≤ count_by q (upwards first (suc count))
     by (inl later) rest =
-        let behind = rest later in
+        let after = rest later in
         let here = each first in
         omega (arith, sum_by-cons (λ k. cond (p k) 1 0) first (upwards (first + 1) count), sum_by-cons (λ k. cond (q k) 1 0) first (upwards (first + 1) count))
     by (inr not_later) rest =
         let same : place ≡ first = omega arith in
         let here : count_if (p first) + less ≤ count_if (q first) = subst (λ (k : ℕ). count_if (p k) + less ≤ count_if (q k)) same at in
-        let behind = count_mono p q (first + 1) count each in
+        let after = count_mono p q (first + 1) count each in
         omega (arith, sum_by-cons (λ k. cond (p k) 1 0) first (upwards (first + 1) count), sum_by-cons (λ k. cond (q k) 1 0) first (upwards (first + 1) count))
 
 le_mono : (a b k : ℕ) → a ≤ b → count_if (nat_le b k) ≤ count_if (nat_le a k)
@@ -126,11 +126,11 @@ answers_fall chip s new t place q step there =
     let longer = ap (λ (requests : List Request). length requests) step.ordered in
     let within = slice_get_within s.network.ordered place q there in
     let less =
-    count_falls (is_to_answer chip new) (is_to_answer chip s) place (count_if (is_by t answers)) 0 (length s.network.ordered) (omega arith)
-    (omega arith) each at in
+    count_falls (is_to_answer chip new) (is_to_answer chip s) place (count_if (is_by t answers)) 0 (length s.network.ordered)
+    (omega arith) (omega arith) each at in
     let all = ap (λ (count : ℕ). count_by (is_to_answer chip new) (upwards 0 count)) longer in
-    let fewer : count_by (is_to_answer chip new) (upwards 0 (length new.network.ordered)) + count_if (is_by t answers) ≤ count_by (is_to_answer chip s)
-    (upwards 0 (length s.network.ordered)) = omega arith in
+    let fewer : count_by (is_to_answer chip new) (upwards 0 (length new.network.ordered)) + count_if (is_by t answers)
+    ≤ count_by (is_to_answer chip s) (upwards 0 (length s.network.ordered)) = omega arith in
     let price = mul-le-mul_left (per_answer chip) fewer in
     omega (arith, mul-add (per_answer chip) (count_by (is_to_answer chip new) (upwards 0 (length new.network.ordered))) (count_if (is_by t answers)))
   where

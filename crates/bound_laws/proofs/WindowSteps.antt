@@ -82,8 +82,7 @@ one_more posts t (x ∷ xs) =
       arith,
       sum_by-cons (λ s. cond (has_tile (bit_or (2 ^ t) posts) s) 1 0) x xs,
       sum_by-cons (λ s. cond (has_tile posts s) 1 0) x xs,
-      sum_by-cons
-          (λ s. cond (t == s) 1 0) x xs,
+      sum_by-cons (λ s. cond (t == s) 1 0) x xs,
     )
 
 posted-more : (chip : Chip) (w : Windows) (t : ℕ) → posted_count chip (record w { posts = bit_or (2 ^ t) w.posts }) ≤ posted_count chip w + 1
@@ -184,8 +183,8 @@ close_lowers chip net tiles taken interfaces some last = record { more = more; o
     more : List Request
     more = ordered_by_window chip net
 
-    lowers : requests_to_go chip
-        (record net { windows = window_closed net.windows; ordered = net.ordered ++ more }) + per_answer chip * length more < requests_to_go chip net
+    lowers : requests_to_go chip (record net { windows = window_closed net.windows; ordered = net.ordered ++ more }) + per_answer chip * length more
+        < requests_to_go chip net
     lowers =
         let w = net.windows in
         let few = few_ordered chip net tiles in
