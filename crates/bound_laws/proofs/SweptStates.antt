@@ -213,7 +213,13 @@ ends_from b d budget pace (suc left) first s some reached within few =
 pub sweeps_end : (b : Behaviour) (d : Doc) (budget : ℕ) (pace : ℕ → ℕ) → SlotIsPossible b d → SweepsEnd b d budget pace
 sweeps_end b d budget pace some =
     let all = ends_from b d budget pace budget 0 (opening d) some (opening_reached b d) (omega arith) (omega arith) in
-    record { sweeps = all.count; state = all.last; swept = record { swept = all.is; made = all.made; ended = all.ended }; few = let few = all.few in omega arith; within = all.within }
+    record {
+      sweeps = all.count;
+      state = all.last;
+      swept = record { swept = all.is; made = all.made; ended = all.ended };
+      few = let few = all.few in omega arith;
+      within = all.within;
+    }
 
 -- ---- a list of offsets that is long enough
 spent : (budget : ℕ) (s : ChipState) → length s.journal ≤ budget → budget ≤ length s.journal → ends budget s ≡ true
