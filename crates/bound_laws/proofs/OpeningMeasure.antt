@@ -116,7 +116,9 @@ unfolding node_to_go core_to_go
 unit_opens chip tile program memory =
     let unit = opening_unit chip tile program memory in
     let records = sum_map (record_promises chip.grid tile) (record_at chip tile memory) (upwards 0 chip.lines) in
-    let none = sum_none (λ line. record_promises chip.grid tile (record_at chip tile memory line)) (upwards 0 chip.lines) (λ k line there. no_promises chip memory tile line) in
+    let none =
+    sum_none (λ line. record_promises chip.grid tile (record_at chip tile memory line)) (upwards 0 chip.lines)
+    (λ k line there. no_promises chip memory tile line) in
     let rest : instructions_to_go chip unit ≤ per_instruction chip * (length program - 0) = instructions_le chip unit in
     let whole : length program - 0 ≡ length program = omega arith in
     let price = ap (λ (n : ℕ). per_instruction chip * n) whole in
