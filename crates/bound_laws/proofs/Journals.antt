@@ -82,3 +82,10 @@ reached_next b d s left event reached is =
 pub opening_reached : (b : Behaviour) (d : Doc) → IsReachable b d (opening d)
 unfolding run
 opening_reached b d = refl
+
+-- an event notes itself
+pub event_noted : (b : Behaviour) (chip : Chip) (s new : ChipState) (event : Event) → after b chip s event ≡ Some new → new.journal ≡ s.journal ++ event ∷ []
+unfolding after
+event_noted b chip s new event is =
+    bind_eq (λ (n : ChipState). n.journal ≡ s.journal ++ event ∷ []) (step b chip s event) _
+    (λ left steps n done. made (λ (n : ChipState). n.journal ≡ s.journal ++ event ∷ []) (noted event left) n (ap (λ (events : List Event). events ++ event ∷ []) (step_journal b chip s left event steps)) done) new is

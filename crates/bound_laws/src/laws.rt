@@ -1,11 +1,11 @@
-ghost use Rattle.std.specs.Prelude.{◌≡◌, ◌<◌, ◌≤◌, ℕ, true, false, List, Some, length};
+ghost use Rattle.std.specs.Prelude.{◌≡◌, ◌<◌, ◌≤◌, ◌++◌, ◌∷◌, [], ℕ, true, false, List, Some, length};
 ghost use Rattle.report_text.specs.declared.event.Event.{Event};
 ghost use Rattle.doc_text.specs.Doc.{Doc};
-ghost use Rattle.chip_model.specs.Chip.{chip_of};
+ghost use Rattle.chip_model.specs.Chip.{Chip, chip_of};
 ghost use Rattle.chip_model.specs.Units.{Behaviour, in_order};
 ghost use Rattle.chip_model.specs.ChipState.{ChipState, opening, finished};
 ghost use Rattle.chip_model.specs.Events.{step};
-ghost use Rattle.chip_model.specs.Runs.{enabled, run, IsReachable};
+ghost use Rattle.chip_model.specs.Runs.{after, enabled, run, IsReachable};
 ghost use Rattle.chip_model.specs.Schedules.{bound, ends, from_offset, slots, sweeps, swept};
 ghost use Rattle.chip_model.specs.Schedules.{IsForward, IsSweptTo};
 ghost use Rattle.chip_model.specs.BehaviourLaws.{KeepsLaws};
@@ -22,6 +22,10 @@ use supply_laws::reachable_laws;
 /// most as many events as the bound, whatever the schedule, and sweeps end for every document and
 /// every kind of core. At run time it does nothing.
 pub fn bound_laws()
+    // Each event notes itself at the end of the journal.
+    ensures noted { (b : Behaviour) (chip : Chip) (s new : ChipState) (event : Event)
+        → after b chip s event ≡ Some new → new.journal ≡ s.journal ++ event ∷ [] }
+
     // Before any event the measure is at most the bound, and each event lowers it.
     ensures opened { (d : Doc) → measure (chip_of d) (opening d) ≤ bound d }
     ensures falls { (d : Doc) (s new : ChipState) (event : Event) → DocFits d → IsForward d

@@ -13,10 +13,13 @@ use Rattle.bound_laws.specs.Measure.{measure}
 use Rattle.bound_laws.proofs.OpeningMeasure.{opening_below}
 use Rattle.bound_laws.proofs.FallingEvents.{OwnRequestsFit, event_falls, may_fall}
 use Rattle.bound_laws.proofs.BoundedRuns.{RunLaws, run_falls}
-use Rattle.bound_laws.proofs.Journals.{opening_reached}
+use Rattle.bound_laws.proofs.Journals.{opening_reached, event_noted}
 use Rattle.bound_laws.proofs.SweptStates.{SlotIsPossible, slot_possible, sweep_grows, sweeps_end, enough_end}
 use Rattle.bound_laws.proofs.FinishedRuns.{full_finished, rest_finished, ample_finished}
 use Rattle.bound_laws.proofs.laws.bound_laws.Goals as goal
+
+pub returns-clause-noted : goal.returns-clause-noted
+returns-clause-noted c = event_noted
 
 pub returns-clause-opened : goal.returns-clause-opened
 returns-clause-opened c = opening_below
