@@ -11,3 +11,14 @@ pub mod Passing
 pub mod CoreSteps
 pub mod CoreEvents
 pub mod ReachedCores
+pub mod Acting
+pub mod ReadsKept
+pub mod Calm
+pub mod QuietSteps
+pub mod Carried
+pub mod SameNodes
+pub mod ChangedUnits
+pub mod Stored
+pub mod SnoopValues
+pub mod Snooping
+pub mod SnoopedNode
