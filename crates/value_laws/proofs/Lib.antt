@@ -11,3 +11,15 @@ pub mod Passing
 pub mod CoreSteps
 pub mod CoreEvents
 pub mod ReachedCores
+pub mod SettledSteps
+pub mod StepValues
+pub mod MissValues
+pub mod NextValues
+pub mod OwnersOn
+pub mod AnsweredValues
+pub mod WaitersOf
+pub mod OwnDeliveries
+pub mod WrittenBackValues
+pub mod OrderedGetValues
+pub mod PlacesOn
+pub mod ReturnedValues
