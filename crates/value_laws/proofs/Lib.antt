@@ -24,3 +24,4 @@ pub mod OrderedGetValues
 pub mod PlacesOn
 pub mod ReturnedValues
 pub mod Snooping
+pub mod SnoopedValues
