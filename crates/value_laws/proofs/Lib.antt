@@ -25,3 +25,7 @@ pub mod PlacesOn
 pub mod ReturnedValues
 pub mod Snooping
 pub mod SnoopedValues
+pub mod StayedValues
+pub mod QuietValues
+pub mod EarlyValues
+pub mod GrownValues
