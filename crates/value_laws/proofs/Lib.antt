@@ -23,3 +23,6 @@ pub mod WrittenBackValues
 pub mod OrderedGetValues
 pub mod PlacesOn
 pub mod ReturnedValues
+pub mod OnlyWriters
+pub mod Completion
+pub mod StoredWords
