@@ -26,3 +26,5 @@ pub mod ReturnedValues
 pub mod OnlyWriters
 pub mod Completion
 pub mod StoredWords
+pub mod CompletedCopies
+pub mod CompletedValues
