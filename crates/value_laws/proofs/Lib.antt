@@ -28,3 +28,4 @@ pub mod Completion
 pub mod StoredWords
 pub mod CompletedCopies
 pub mod CompletedValues
+pub mod Snooping
