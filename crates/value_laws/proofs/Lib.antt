@@ -29,3 +29,5 @@ pub mod StoredWords
 pub mod CompletedCopies
 pub mod CompletedValues
 pub mod Snooping
+pub mod ArrivedValues
+pub mod OwnCompletedValues
