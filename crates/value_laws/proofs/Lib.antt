@@ -31,3 +31,4 @@ pub mod CompletedValues
 pub mod Snooping
 pub mod ArrivedValues
 pub mod OwnCompletedValues
+pub mod SnoopedValues

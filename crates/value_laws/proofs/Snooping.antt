@@ -1,5 +1,5 @@
 -- What the request of another tile leaves of the cache side of a node, and whose words it sends.
-use Rattle.std.proofs.Common.{◌≡◌, ◌≢◌, ℕ, zero, suc, Bool, true, false, ◌==◌, ◌&&◌, Option, Some, None, List, [], ◌∷◌, ◌++◌, is_some, sym, ap, ◌∙◌, refl, subst, inl, inr, ◌⊎◌, arith}
+use Rattle.std.proofs.Common.{◌≡◌, ◌≢◌, ℕ, zero, suc, Bool, true, false, ◌==◌, ◌&&◌, Option, Some, None, List, [], ◌∷◌, ◌++◌, is_some, eq-eqb, sym, ap, ◌∙◌, refl, subst, inl, inr, ◌⊎◌, arith}
 use Rattle.std.specs.Prelude.{if◌then◌else◌, slice_get}
 use Rattle.std.proofs.lemmas.Bool.{false≢true}
 use Rattle.std.proofs.lemmas.Bool.Decides.{nat_tests}
@@ -13,6 +13,7 @@ use Rattle.chip_model.specs.Chip.{Chip}
 use Rattle.chip_model.specs.Cache.{Cache, Held, is_shared, lookup, installed, without_line}
 use Rattle.chip_model.specs.Misses.{Demand, WriteBack, is_getm}
 use Rattle.chip_model.specs.Snoop.{CacheSide, Outcome, quiet, supplies, with_cache, with_demand, with_back, stale_back, made_stale, line_gone, made_owned, deferred_to_demand, serves_once, Holding, holding, live_for, ordered_for, snooped_with, data_to}
+use Rattle.chip_model.specs.NodeShape.{is_modified}
 use Rattle.chip_model.specs.Bookkeeping.{is_get}
 use Rattle.chip_model.specs.Suppliers.{place_of_ordered}
 use Rattle.chip_model.specs.Writers.{is_ordered_write}
@@ -81,12 +82,13 @@ pub record BecomesOwned (chip : Chip) (side : CacheSide) (q : Request) (line : �
   pub state : held.state ≡ O
   pub words : held.words ≡ was.words
 
--- words are those of an owned copy of the line
-pub record OfCopy (chip : Chip) (side : CacheSide) (line : ℕ) (words : List ℕ) : Type 0 where
+-- words are those of an owned copy of the line, which is not the only valid one afterwards
+pub record OfCopy (chip : Chip) (side : CacheSide) (left : Cache) (line : ℕ) (words : List ℕ) : Type 0 where
   pub held : Held
   pub at : lookup chip side.cache line ≡ Some held
   pub owned : is_shared held.state ≡ false
   pub is : held.words ≡ words
+  pub clean : is_modified (lookup chip left line) ≡ false
 
 -- words are those of a live write-back of the line
 pub record OfBack (side : CacheSide) (line : ℕ) (words : List ℕ) : Type 0 where
@@ -97,11 +99,11 @@ pub record OfBack (side : CacheSide) (line : ℕ) (words : List ℕ) : Type 0 wh
   pub is : back.words ≡ words
 
 -- a message answers the request with the words of an owned copy or of a live write-back
-pub record SendsWords (chip : Chip) (side : CacheSide) (q : Request) (msg : Msg) : Type 0 where
+pub record SendsWords (chip : Chip) (side : CacheSide) (left : Cache) (q : Request) (msg : Msg) : Type 0 where
   pub words : List ℕ
   pub is : msg ≡ data_to q.source q.line words
   pub asks : is_get q.kind ≡ true
-  pub of : OfCopy chip side q.line words ⊎ OfBack side q.line words
+  pub of : OfCopy chip side left q.line words ⊎ OfBack side q.line words
 
 -- each copy stood or was made one to share, each live write-back stood, the demand stays, and the words are those of an owner
 pub record Snooped (chip : Chip) (side : CacheSide) (q : Request) (outcome : Outcome) : Type 0 where
@@ -109,7 +111,7 @@ pub record Snooped (chip : Chip) (side : CacheSide) (q : Request) (outcome : Out
       → (lookup chip side.cache line ≡ Some held) ⊎ BecomesOwned chip side q line held
   pub demand : DemandStays side.misses.demand outcome.side.misses.demand
   pub back : (back : WriteBack) → outcome.side.misses.back ≡ Some back → back.live ≡ true → side.misses.back ≡ Some back
-  pub sends : (i : ℕ) (msg : Msg) → slice_get outcome.sends i ≡ Some msg → SendsWords chip side q msg
+  pub sends : (i : ℕ) (msg : Msg) → slice_get outcome.sends i ≡ Some msg → SendsWords chip side outcome.side.cache q msg
 
 -- ---- its parts
 
@@ -149,10 +151,28 @@ copies_owned chip side q was kind there owned line held at =
         })
     by false test is = inl is
 
-one_sent : (chip : Chip) (side : CacheSide) (q : Request) (words : List ℕ) → is_get q.kind ≡ true → OfCopy chip side q.line words ⊎ OfBack side q.line words
-    → (i : ℕ) (msg : Msg) → slice_get (data_to q.source q.line words ∷ []) i ≡ Some msg → SendsWords chip side q msg
-one_sent chip side q words asks of zero msg at = record { words = words; is = sym (same_Some (data_to q.source q.line words) msg at); asks = asks; of = of }
-one_sent chip side q words asks of (suc i) msg at = none_some msg at
+one_sent : (chip : Chip) (side : CacheSide) (left : Cache) (q : Request) (words : List ℕ) → is_get q.kind ≡ true
+    → OfCopy chip side left q.line words ⊎ OfBack side q.line words
+    → (i : ℕ) (msg : Msg) → slice_get (data_to q.source q.line words ∷ []) i ≡ Some msg → SendsWords chip side left q msg
+one_sent chip side left q words asks of zero msg at = record {
+  words = words;
+  is = sym (same_Some (data_to q.source q.line words) msg at);
+  asks = asks;
+  of = of;
+}
+one_sent chip side left q words asks of (suc i) msg at = none_some msg at
+
+-- the line of the request is not the only valid copy afterwards
+gone_clean : (chip : Chip) (cache : Cache) (line : ℕ) → is_modified (lookup chip (without_line chip line cache) line) ≡ false
+gone_clean chip cache line =
+    ap is_modified (lookup-without_line chip cache line line ∙ ap (λ (b : Bool). if b then None else lookup chip cache line) (eq-eqb line line refl))
+
+owned_clean : (chip : Chip) (cache : Cache) (line : ℕ) (was : Held) → lookup chip cache line ≡ Some was
+    → is_modified (lookup chip (installed chip (record { line = line; state = O; words = was.words }) cache) line) ≡ false
+owned_clean chip cache line was there =
+    let new : Held = record { line = line; state = O; words = was.words } in
+    ap is_modified (lookup-installed chip cache new line (fits_held chip cache line (ap is_some there))
+    ∙ ap (λ (b : Bool). if b then Some new else lookup chip cache line) (eq-eqb line line refl))
 
 -- a step that sends nothing and leaves the write-back
 leaves : (chip : Chip) (side : CacheSide) (q : Request) (cache : Cache) (demand : Option Demand) → CopiesStood chip side q cache
@@ -181,7 +201,8 @@ snooped_read chip side q kind = holding_forms chip side q.line (λ h. Snooped ch
     copies = copies_owned chip side q held kind there owned;
     demand = demand_same side.misses.demand;
     back = λ back stands live. stands;
-    sends = one_sent chip side q held.words (ap is_get kind) (inl (record { held = held; at = there; owned = owned; is = refl }));
+    sends = one_sent chip side (installed chip (record { line = q.line; state = O; words = held.words }) side.cache) q held.words (ap is_get kind)
+        (inl (record { held = held; at = there; owned = owned; is = refl; clean = owned_clean chip side.cache q.line held there }));
   };
   live = λ copy back is. (
       let lives = live_is q.line side.misses.back back is in
@@ -189,7 +210,7 @@ snooped_read chip side q kind = holding_forms chip side q.line (λ h. Snooped ch
         copies = λ line held at. inl at;
         demand = demand_same side.misses.demand;
         back = λ b stands live. stands;
-        sends = one_sent chip side q back.words (ap is_get kind)
+        sends = one_sent chip side side.cache q back.words (ap is_get kind)
             (inr (record { back = back; stands = lives.stands; live = lives.live; same = lives.at; is = refl }));
       });
   write = λ copy back demand is writes goes_on. leaves chip side q side.cache
@@ -209,7 +230,8 @@ snooped_write chip side q kind = holding_forms chip side q.line (λ h. Snooped c
     copies = copies_gone chip side q;
     demand = demand_same side.misses.demand;
     back = λ back stands live. stands;
-    sends = one_sent chip side q held.words (ap is_get kind) (inl (record { held = held; at = there; owned = owned; is = refl }));
+    sends = one_sent chip side (without_line chip q.line side.cache) q held.words (ap is_get kind)
+        (inl (record { held = held; at = there; owned = owned; is = refl; clean = gone_clean chip side.cache q.line }));
   };
   live = λ copy back is. (
       let lives = live_is q.line side.misses.back back is in
@@ -217,7 +239,7 @@ snooped_write chip side q kind = holding_forms chip side q.line (λ h. Snooped c
         copies = λ line held at. inl at;
         demand = demand_same side.misses.demand;
         back = λ b stands live. absurd (stale_is_not_live side.misses.back b stands live);
-        sends = one_sent chip side q back.words (ap is_get kind)
+        sends = one_sent chip side side.cache q back.words (ap is_get kind)
             (inr (record { back = back; stands = lives.stands; live = lives.live; same = lives.at; is = refl }));
       });
   write = λ copy back demand is writes goes_on. leaves chip side q (without_line chip q.line side.cache)
