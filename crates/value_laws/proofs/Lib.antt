@@ -23,7 +23,14 @@ pub mod WrittenBackValues
 pub mod OrderedGetValues
 pub mod PlacesOn
 pub mod ReturnedValues
+pub mod OnlyWriters
+pub mod Completion
+pub mod StoredWords
+pub mod CompletedCopies
+pub mod CompletedValues
 pub mod Snooping
+pub mod ArrivedValues
+pub mod OwnCompletedValues
 pub mod SnoopedValues
 pub mod StayedValues
 pub mod QuietValues

@@ -53,7 +53,7 @@ tile_after line v q PutM true true k l o not_back =
     ∙ o in
     absurd (both_ways (writes_back_as line (Tile v) (Some q)) not_back is)
 
-some_at : (ordered : List Request) (n : ℕ) → n < length ordered → (q : Request) × (slice_get ordered n ≡ Some q)
+pub some_at : (ordered : List Request) (n : ℕ) → n < length ordered → (q : Request) × (slice_get ordered n ≡ Some q)
 some_at [] n below = absurd (omega (arith, below))
 some_at (x ∷ xs) zero below = (x, refl)
 some_at (x ∷ xs) (suc n) below = some_at xs n (omega (arith, below))

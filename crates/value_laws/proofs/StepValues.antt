@@ -80,14 +80,15 @@ module _ (d : Doc) (s new : ChipState) (e : OrdersNothing d s new) (t : ℕ) (un
   }
 
   -- that of the tile itself, where the value stays
+  pub itself_settled : (line place : ℕ) → OthersSettled s line place t → OthersSettled new line place t
+  itself_settled line place is =
+      each_unit (λ v x. v ≢ t → IsSettled new.network.ordered x.node line place) s new t unit after c
+      (λ apart. absurd (apart refl))
+      (λ v other far at apart. settled_still d s new e other.node line place (is v other at apart))
+
   pub itself_on : (line place : ℕ) (words : List ℕ) → line_value d new.accesses line place ≡ line_value d s.accesses line place → HasOwnValue d s t line place words
       → HasOwnValue d new t line place words
-  itself_on line place words same has = record {
-    value = has.value ∙ sym same;
-    settled = each_unit (λ v x. v ≢ t → IsSettled new.network.ordered x.node line place) s new t unit after c
-        (λ apart. absurd (apart refl))
-        (λ v other far at apart. settled_still d s new e other.node line place (has.settled v other at apart));
-  }
+  itself_on line place words same has = record { value = has.value ∙ sym same; settled = itself_settled line place has.settled }
 
   -- a copy of the tile itself that stays, where its node has delivered no more
   pub itself_copy_on : (line : ℕ) (held : Held) (state : State) → after.node.delivered ≡ unit.node.delivered → place_of_shared after.node line ≡ place_of_shared unit.node line
@@ -116,20 +117,25 @@ module _ (d : Doc) (s new : ChipState) (e : OrdersNothing d s new) (t : ℕ) (un
     ];
   }
 
-  -- ---- words that answer gets, of a tile that still waits
-  pub answers_on : (u line : ℕ) (old other : UnitState) (words : List ℕ) → slice_get s.units u ≡ Some old → slice_get new.units u ≡ Some other
-      → (place : ℕ) × (place_of_get new other.node ≡ Some place) → AnswersGet d s old.node line words → AnswersGet d new other.node line words
-  answers_on u line old other words was is waits has = elim (e.places.places u old other was is) [
-    | inl same ↦ record {
-      place = has.place;
-      request = has.request;
-      get = same ∙ has.get;
-      at = still_at d s new e has.place has.request has.at;
-      line_is = has.line_is;
-      value = value_on line has.place words has.value;
-    }
+  -- ---- words that answer gets
+  -- a tile that still waits for a get waits for the one for which it waited
+  pub place_on : (u place : ℕ) (old other : UnitState) → slice_get s.units u ≡ Some old → slice_get new.units u ≡ Some other → (k : ℕ) × (place_of_get new other.node ≡ Some k)
+      → place_of_get s old.node ≡ Some place → place_of_get new other.node ≡ Some place
+  place_on u place old other was is waits get = elim (e.places.places u old other was is) [
+    | inl same ↦ same ∙ get
     | inr ends ↦ none_some waits.0 (sym ends.0 ∙ waits.1)
   ]
+
+  pub answers_on : (u line : ℕ) (old other : UnitState) (words : List ℕ) → slice_get s.units u ≡ Some old → slice_get new.units u ≡ Some other
+      → (place : ℕ) × (place_of_get new other.node ≡ Some place) → AnswersGet d s old.node line words → AnswersGet d new other.node line words
+  answers_on u line old other words was is waits has = record {
+    place = has.place;
+    request = has.request;
+    get = place_on u has.place old other was is waits has.get;
+    at = still_at d s new e has.place has.request has.at;
+    line_is = has.line_is;
+    value = value_on line has.place words has.value;
+  }
 
   message_by : (msg : Msg) (kind : MsgKind) → (kind ≡ Data → WaitsFor new msg.to msg.line) → MessageHasValue d s msg kind → MessageHasValue d new msg kind
   message_by msg Data waits has = λ other is.
