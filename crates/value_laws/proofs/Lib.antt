@@ -36,3 +36,5 @@ pub mod StayedValues
 pub mod QuietValues
 pub mod EarlyValues
 pub mod GrownValues
+pub mod Acting
+pub mod ReadsKept
