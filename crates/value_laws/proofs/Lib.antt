@@ -38,3 +38,5 @@ pub mod EarlyValues
 pub mod GrownValues
 pub mod Acting
 pub mod ReadsKept
+pub mod HitAccesses
+pub mod HitValues
