@@ -32,3 +32,5 @@ pub mod Snooping
 pub mod ArrivedValues
 pub mod OwnCompletedValues
 pub mod SnoopedValues
+pub mod EventFrames
+pub mod OwnEvents
