@@ -34,3 +34,7 @@ pub mod OwnCompletedValues
 pub mod SnoopedValues
 pub mod EventFrames
 pub mod OwnEvents
+pub mod StayedValues
+pub mod QuietValues
+pub mod EarlyValues
+pub mod GrownValues
