@@ -33,7 +33,7 @@ pub mod ArrivedValues
 pub mod OwnCompletedValues
 pub mod SnoopedValues
 pub mod EventFrames
-pub mod OwnEvents
+pub mod NodeEvents
 pub mod StayedValues
 pub mod QuietValues
 pub mod EarlyValues

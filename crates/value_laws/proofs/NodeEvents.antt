@@ -1,8 +1,8 @@
--- The events by which a tile's own demand and write-back go on: a core event that performs no access, the delivery of its own
--- request, and a message that comes. Each keeps all values.
-use Rattle.std.proofs.Common.{◌≡◌, ℕ, ◌+◌, ◌<◌, ◌≤◌, Bool, true, false, cond, refl, sym, ◌∙◌, ap, subst, arith, inl, inr, ◌⊎◌, Option, Some, None, List, [], ◌∷◌, ◌++◌}
+-- The events of a tile's node: a core event that performs no access, the delivery of a request, and a message that comes. Each
+-- keeps all values.
+use Rattle.std.proofs.Common.{◌≡◌, ◌≢◌, ℕ, ◌+◌, ◌<◌, ◌≤◌, Bool, true, false, cond, refl, sym, ◌∙◌, ap, subst, arith, inl, inr, ◌⊎◌, Option, Some, None, List, [], ◌∷◌, ◌++◌}
 use Rattle.std.specs.Prelude.{◌==◌, ◌&&◌, slice_get}
-use Rattle.std.proofs.lemmas.Bool.{cond_both, eq-eqb}
+use Rattle.std.proofs.lemmas.Bool.{cond_both, cases_eq, eq-eqb, ne_eqb}
 use Rattle.mesh_gen.specs.declared.kind.Kind.{Kind}
 use Rattle.mesh_gen.specs.declared.kind.Kind.TheVariants.{GetS, GetM, PutM}
 use Rattle.mesh_gen.specs.declared.request.Request.{Request}
@@ -10,7 +10,7 @@ use Rattle.mesh_gen.specs.declared.msg.Msg.{Msg}
 use Rattle.mesh_gen.specs.declared.msg_kind.MsgKind.{MsgKind}
 use Rattle.mesh_gen.specs.declared.msg_kind.MsgKind.TheVariants.{Data, Back}
 use Rattle.mesh_gen.specs.declared.port.Port.{Port}
-use Rattle.mesh_gen.specs.Ports.{port_number, count_if}
+use Rattle.mesh_gen.specs.Ports.{port_number}
 use Rattle.vc_bank.specs.Places.{Network, at as stands_at}
 use Rattle.report_text.specs.declared.access.Access.{Access}
 use Rattle.doc_text.specs.Doc.{Doc}
@@ -19,28 +19,29 @@ use Rattle.chip_model.specs.Chip.{Chip, chip_of}
 use Rattle.chip_model.specs.Misses.{Demand, is_getm}
 use Rattle.chip_model.specs.Snoop.{CacheSide, Outcome, completed, completed_load, completed_store, done_by, words_here, ordered_with, own_get, own_put, own_request, holding, snooped_with, after_snoop}
 use Rattle.chip_model.specs.Snoop.{data_for, data_at, after_data}
-use Rattle.chip_model.specs.Node.{Node, Performed, is_back, node_after_request, node_after_message, arrived_as, words_arrived, back_came}
+use Rattle.chip_model.specs.Node.{Node, Performed, node_after_request, node_after_message, arrived_as, words_arrived, back_came}
 use Rattle.chip_model.specs.Units.{UnitState, Behaviour, Acted}
 use Rattle.chip_model.specs.ChipState.{ChipState}
 use Rattle.chip_model.specs.Events.{with_access}
 use Rattle.chip_model.specs.BehaviourLaws.{KeepsLaws, Answers, numbered, Works, GoesOn}
 use Rattle.chip_model.specs.Bookkeeping.{is_get}
-use Rattle.chip_model.specs.Suppliers.{is_back_for}
 use Rattle.chip_model.specs.Values.{AnswersGet, ComesFromWriteBack, MessageHasValue, ValuesHold}
 use Rattle.snoop_core.specs.Requests.{MeetsDemand, MeetsOwn, OwnRequestFits}
+use Rattle.snoop_core.proofs.OwnSteps.{met_done}
 use Rattle.reply_net.proofs.Accounts.{IsReceived, received_is}
 use Rattle.chip_laws.specs.DocLaws.{DocLaws}
 use Rattle.chip_laws.specs.EventSteps.{ChangesUnit, CoreWorks, RequestComes, MessageComes}
 use Rattle.chip_laws.specs.Meetings.{UnitsFit}
-use Rattle.chip_laws.specs.MessageLaws.{MessageLaws}
 use Rattle.chip_laws.proofs.Deliveries.{deliveries_fit}
 use Rattle.chip_laws.proofs.Options.{none_some}
 use Rattle.chip_laws.proofs.WholeSteps.{delivers_next}
-use Rattle.supply_laws.specs.OpenGets.{NoneWritesBackBefore}
+use Rattle.supply_laws.specs.OpenGets.{NoneWritesBackBefore, DataAnswersGets}
+use Rattle.supply_laws.proofs.Arrivals.{arrivals_fit}
 use Rattle.supply_laws.proofs.Carried.{received_leaves}
-use Rattle.supply_laws.proofs.WordsDue.{due, backs_in_channels}
 use Rattle.value_laws.specs.Sequences.{AreRising}
 use Rattle.value_laws.proofs.ArrivedValues.{arrived_values}
+use Rattle.value_laws.proofs.EarlyValues.{early_values}
+use Rattle.value_laws.proofs.GrownValues.{carried_due}
 use Rattle.value_laws.proofs.MissValues.{miss_values}
 use Rattle.value_laws.proofs.OrderedGetValues.{ordered_get_values}
 use Rattle.value_laws.proofs.OwnCompletedValues.{own_completed_values}
@@ -48,6 +49,7 @@ use Rattle.value_laws.proofs.OwnDeliveries.{get_request}
 use Rattle.value_laws.proofs.QuietValues.{node_kept_values}
 use Rattle.value_laws.proofs.ReturnedValues.{returned_values}
 use Rattle.value_laws.proofs.SettledSteps.{OrdersNothing}
+use Rattle.value_laws.proofs.SnoopedValues.{other_request_values}
 use Rattle.value_laws.proofs.WrittenBackValues.{written_back_values}
 
 -- ---- the access that a unit answers
@@ -87,7 +89,8 @@ core_values b laws d s new e values fit t does none =
     quiet_works d s new e values t does.unit (b.stepped does.unit) does.changes (none_noted s new (b.stepped does.unit).1 does.accesses none) does.replies none
     (laws.stepped does.unit (fit t does.unit does.changes.at) does.ready).1
 
--- ---- the delivery of the own request
+-- ---- the delivery of a request
+-- of the tile's own
 own_done : (q : Request) (node : Node) → q.source ≡ node.tile → (node_after_request q node).1 ≡ (own_request node.chip node.side node.delivered q.kind).done
 unfolding node_after_request after_snoop
 own_done q node source =
@@ -157,11 +160,32 @@ module _ (b : Behaviour) (laws : KeepsLaws b) (d : Doc) (s new : ChipState) (e :
   by_kind GetM kind meets = get_delivered (ap is_get kind) meets
   by_kind PutM kind meets = put_delivered kind
 
-  pub own_request_values : ValuesHold d new
+  own_request_values : ValuesHold d new
   own_request_values = by_kind does.request.kind refl (own source)
 
+-- of another tile: no access is performed
+other_done : (q : Request) (node : Node) → q.source ≢ node.tile → (node_after_request q node).1 ≡ None
+unfolding node_after_request after_snoop
+other_done q node away =
+    ap (λ (b : Bool). (cond b (own_request node.chip node.side node.delivered q.kind) (snooped_with node.chip q node.side (holding node.chip node.side q.line) q.kind)).done)
+    (ne_eqb q.source node.tile away)
+    ∙ met_done q (record { chip = node.chip; side = node.side })
+
+pub request_values : (b : Behaviour) (laws : KeepsLaws b) (d : Doc) (s new : ChipState) → OrdersNothing d s new → ValuesHold d s → UnitsFit b laws s → DocLaws d → AreRising s.accesses
+    → (t : ℕ) → RequestComes b (chip_of d) s new t → ValuesHold d new
+request_values b laws d s new e values fit fits rising t does = elim (cases_eq does.request.source does.unit.node.tile) [
+  | inl own ↦ own_request_values b laws d s new e values fit fits rising t does own
+  | inr away ↦ (
+      let goes = (laws.delivered does.request does.unit (fit t does.unit does.changes.at)).1.goes_on in
+      other_request_values d s new e values fits t does.unit (b.delivered does.request does.unit).0 does.changes does.request
+      (deliveries_fit d s fits e.before t does.unit does.request new.network does.changes.at does.network) away goes.node
+      (none_noted s new (b.delivered does.request does.unit).1 does.accesses
+      (no_answer does.unit (b.delivered does.request does.unit).0 (node_after_request does.request does.unit.node).1 (b.delivered does.request does.unit).1
+      (other_done does.request does.unit.node away) goes.answers)) does.replies)
+]
+
 -- ---- a message comes
-module _ (messages : MessageLaws) (b : Behaviour) (laws : KeepsLaws b) (d : Doc) (s new : ChipState) (e : OrdersNothing d s new) (values : ValuesHold d s) (fit : UnitsFit b laws s)
+module _ (b : Behaviour) (laws : KeepsLaws b) (d : Doc) (s new : ChipState) (e : OrdersNothing d s new) (values : ValuesHold d s) (fit : UnitsFit b laws s)
     (fits : DocLaws d) (t : ℕ) (port : Port) (slot : ℕ) (does : MessageComes b s new t port slot) where
   received : IsReceived s.replies new.replies t port slot does.msg
   received = received_is s.replies t port slot (does.msg, new.replies) does.replies
@@ -179,43 +203,63 @@ module _ (messages : MessageLaws) (b : Behaviour) (laws : KeepsLaws b) (d : Doc)
   unfolding node_after_message
   message_as kind is = ap (arrived_as does.msg does.unit.node) is
 
-  some_due : does.msg.kind ≡ Back → 0 < due s does.msg.line
-  some_due kind =
-      let one : count_if (is_back_for does.msg.line does.msg) ≡ 1 =
-      ap count_if (ap (λ (k : MsgKind). is_back k && (does.msg.line == does.msg.line)) kind ∙ eq-eqb does.msg.line does.msg.line refl) in
-      let sum : backs_in_channels new does.msg.line + count_if (is_back_for does.msg.line does.msg) ≡ backs_in_channels s does.msg.line =
-      messages.takes (λ m. count_if (is_back_for does.msg.line m)) s.replies new.replies t port slot does.msg does.replies in
-      omega (arith, one, sum)
-
   -- words that are written back
-  pub back_values : NoneWritesBackBefore s → does.msg.kind ≡ Back → ValuesHold d new
+  back_values : NoneWritesBackBefore s → does.msg.kind ≡ Back → ValuesHold d new
   back_values none kind =
       let shown : node_after_message does.msg does.unit.node ≡ arrived_as does.msg does.unit.node Back = message_as Back kind in
       returned_values d s new e values fits none t does.unit (b.received does.msg does.unit).0 does.changes does.msg.line does.msg.words
-      (e.before.network.messages t (port_number port) slot does.msg received.stood).line (some_due kind)
+      (e.before.network.messages t (port_number port) slot does.msg received.stood).line (carried_due s t (port_number port) slot does.msg received.stood kind)
       (subst (MessageHasValue d s does.msg) kind carried)
       (reacts.node ∙ ap (λ (p : Performed). p.0) shown)
       (none_noted s new (b.received does.msg does.unit).1 does.accesses
       (no_answer does.unit (b.received does.msg does.unit).0 (node_after_message does.msg does.unit.node).1 (b.received does.msg does.unit).1 (ap (λ (p : Performed). p.1) shown) reacts.answers)) left
 
-  -- data for an ordered demand
-  data_done : (demand : Demand) (place : ℕ) → does.unit.node.side.misses.demand ≡ Some demand → demand.ordered ≡ Some place
-      → (words_arrived does.unit.node does.msg.words).1 ≡ Some (done_by demand.pending (place + 1) does.msg.words)
+  -- data: what it performs, by the place of the demand
+  data_done : (demand : Demand) (place : Option ℕ) → does.unit.node.side.misses.demand ≡ Some demand → demand.ordered ≡ place
+      → (words_arrived does.unit.node does.msg.words).1 ≡ (data_at does.unit.node.chip does.unit.node.side does.msg.words demand place).done
   unfolding after_data
   data_done demand place stands ordered =
       ap (λ (o : Option Demand). (data_for does.unit.node.chip does.unit.node.side does.msg.words o).done) stands
       ∙ ap (λ (o : Option ℕ). (data_at does.unit.node.chip does.unit.node.side does.msg.words demand o).done) ordered
-      ∙ completed_done does.unit.node.chip demand place does.msg.words does.unit.node.side
 
-  pub data_answers : does.msg.kind ≡ Data → AnswersGet d s does.unit.node does.msg.line does.msg.words
-  data_answers kind = (subst (MessageHasValue d s does.msg) kind carried) does.unit (ap (slice_get s.units) received.here ∙ does.changes.at)
+  answers : does.msg.kind ≡ Data → AnswersGet d s does.unit.node does.msg.line does.msg.words
+  answers kind = (subst (MessageHasValue d s does.msg) kind carried) does.unit (ap (slice_get s.units) received.here ∙ does.changes.at)
 
-  pub data_values : AreRising s.accesses → does.msg.kind ≡ Data → (demand : Demand) (place : ℕ) → does.unit.node.side.misses.demand ≡ Some demand → demand.ordered ≡ Some place → ValuesHold d new
-  data_values rising kind demand place stands ordered =
+  -- for an ordered demand
+  ordered_data : AreRising s.accesses → does.msg.kind ≡ Data → (demand : Demand) (place : ℕ) → does.unit.node.side.misses.demand ≡ Some demand → demand.ordered ≡ Some place → ValuesHold d new
+  ordered_data rising kind demand place stands ordered =
       let shown : node_after_message does.msg does.unit.node ≡ words_arrived does.unit.node does.msg.words = message_as Data kind in
+      let done : (node_after_message does.msg does.unit.node).1 ≡ Some (done_by demand.pending (place + 1) does.msg.words) =
+      ap (λ (p : Performed). p.1) shown ∙ data_done demand (Some place) stands ordered ∙ completed_done does.unit.node.chip demand place does.msg.words does.unit.node.side in
       let (number, answer) =
       some_answer does.unit (b.received does.msg does.unit).0 (node_after_message does.msg does.unit.node).1 (b.received does.msg does.unit).1
-      (done_by demand.pending (place + 1) does.msg.words) (ap (λ (p : Performed). p.1) shown ∙ data_done demand place stands ordered) reacts.answers in
-      arrived_values d s new e values rising t does.unit (b.received does.msg does.unit).0 does.changes does.msg.line does.msg.words (data_answers kind) demand place stands ordered
+      (done_by demand.pending (place + 1) does.msg.words) done reacts.answers in
+      arrived_values d s new e values rising t does.unit (b.received does.msg does.unit).0 does.changes does.msg.line does.msg.words (answers kind) demand place stands ordered
       (reacts.node ∙ ap (λ (p : Performed). p.0) shown) number
       (one_noted s new (b.received does.msg does.unit).1 (numbered does.unit (done_by demand.pending (place + 1) does.msg.words) number) does.accesses answer) left
+
+  -- for one that is not ordered yet
+  early_data : does.msg.kind ≡ Data → (demand : Demand) → does.unit.node.side.misses.demand ≡ Some demand → does.msg.line ≡ demand.line → demand.ordered ≡ None → ValuesHold d new
+  early_data kind demand stands line unordered =
+      let done : (node_after_message does.msg does.unit.node).1 ≡ None =
+      ap (λ (p : Performed). p.1) (message_as Data kind) ∙ data_done demand None stands unordered in
+      early_values d s new e values t does.unit (b.received does.msg does.unit).0 does.changes does.msg demand kind stands unordered
+      (subst (λ (l : ℕ). AnswersGet d s does.unit.node l does.msg.words) line (answers kind)) reacts.node
+      (none_noted s new (b.received does.msg does.unit).1 does.accesses
+      (no_answer does.unit (b.received does.msg does.unit).0 (node_after_message does.msg does.unit.node).1 (b.received does.msg does.unit).1 done reacts.answers))
+      (λ r p i m there. values.channels r p i m (left r p i m there))
+
+  data_values : AreRising s.accesses → DataAnswersGets s → does.msg.kind ≡ Data → ValuesHold d new
+  data_values rising waiting kind =
+      let (demand, stands, is_for) = arrivals_fit d s e.before waiting t port slot does.unit does.msg new.replies does.changes.at does.replies kind in
+      by demand stands is_for.line demand.ordered refl
+    where
+      by : (demand : Demand) → does.unit.node.side.misses.demand ≡ Some demand → demand.line ≡ does.msg.line → (place : Option ℕ) → demand.ordered ≡ place → ValuesHold d new
+      by demand stands line (Some place) ordered = ordered_data rising kind demand place stands ordered
+      by demand stands line None unordered = early_data kind demand stands (sym line) unordered
+
+  pub message_values : AreRising s.accesses → NoneWritesBackBefore s → DataAnswersGets s → ValuesHold d new
+  message_values rising none waiting = by does.msg.kind refl where
+    by : (kind : MsgKind) → does.msg.kind ≡ kind → ValuesHold d new
+    by Data kind = data_values rising waiting kind
+    by Back kind = back_values none kind
