@@ -38,3 +38,4 @@ pub mod StayedValues
 pub mod QuietValues
 pub mod EarlyValues
 pub mod GrownValues
+pub mod EventValues
