@@ -168,10 +168,10 @@ module _ (d : Doc) (s new : ChipState) (e : OrdersNothing d s new) (t : ℕ) (un
 
   -- ---- all that the node has
   module _ (other_copy : (line : ℕ) (held : Held) → line ≢ is.demand.line → lookup unit.node.chip unit.node.side.cache line ≡ Some held → lookup after.node.chip after.node.side.cache line ≡ Some held
-        → CopyHasValue d new after.node line held held.state)
+      → CopyHasValue d new after.node line held held.state)
       (back : (back : WriteBack) → after.node.side.misses.back ≡ Some back → back.live ≡ true → HasValue d new back.line after.node.delivered back.words)
       (queued : (i : ℕ) (msg : Msg) → slice_get after.node.out i ≡ Some msg
-        → MessageHasValue d s msg msg.kind ⊎ ((j : ℕ) × (slice_get (completed unit.node.chip is.demand is.place is.words unit.node.side).sends j ≡ Some msg)))
+      → MessageHasValue d s msg msg.kind ⊎ ((j : ℕ) × (slice_get (completed unit.node.chip is.demand is.place is.words unit.node.side).sends j ≡ Some msg)))
       (records : (line : ℕ) (r : LineRecord) → slice_index_or after.node.records line None ≡ Some r → r.fresh ≡ true → RecordHasValue d new after.node line r r.owner) where
     copy : (line : ℕ) (held : Held) → lookup after.node.chip after.node.side.cache line ≡ Some held → IsLeft unit.node.chip unit.node.side.cache is.demand is.words line held
         → CopyHasValue d new after.node line held held.state

@@ -39,3 +39,5 @@ pub mod QuietValues
 pub mod EarlyValues
 pub mod GrownValues
 pub mod EventValues
+pub mod Acting
+pub mod ReadsKept

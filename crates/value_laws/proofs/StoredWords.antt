@@ -77,8 +77,8 @@ module _ (d : Doc) (s new : ChipState) (e : OrdersNothing d s new) (t : ℕ) (un
   asks_own reads k q above below at same kind = elim (cases_eq q.source t) [
     | inl own ↦ own
     | inr other ↦ absurd (both_ways (is_getm q.kind)
-      (reads_between (is_of_others t is.demand.line) ordered is.place after.node.delivered k q reads above below at (other_getm t is.demand.line q kind same other))
-      (ap is_getm kind))
+        (reads_between (is_of_others t is.demand.line) ordered is.place after.node.delivered k q reads above below at (other_getm t is.demand.line q kind same other))
+        (ap is_getm kind))
   ]
 
   -- the tile itself does not ask again
