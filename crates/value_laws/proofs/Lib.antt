@@ -32,10 +32,13 @@ pub mod Snooping
 pub mod ArrivedValues
 pub mod OwnCompletedValues
 pub mod SnoopedValues
+pub mod EventFrames
+pub mod NodeEvents
 pub mod StayedValues
 pub mod QuietValues
 pub mod EarlyValues
 pub mod GrownValues
+pub mod EventValues
 pub mod Acting
 pub mod ReadsKept
 pub mod HitAccesses
