@@ -43,3 +43,5 @@ pub mod Acting
 pub mod ReadsKept
 pub mod HitAccesses
 pub mod HitValues
+pub mod CleanSteps
+pub mod CoreHits
