@@ -41,3 +41,4 @@ pub mod GrownValues
 pub mod EventValues
 pub mod Acting
 pub mod ReadsKept
+pub mod OpenedValues
