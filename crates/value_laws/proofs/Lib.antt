@@ -42,3 +42,5 @@ pub mod EventValues
 pub mod Acting
 pub mod ReadsKept
 pub mod OpenedValues
+pub mod HitAccesses
+pub mod HitValues
