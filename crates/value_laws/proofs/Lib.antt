@@ -41,6 +41,7 @@ pub mod GrownValues
 pub mod EventValues
 pub mod Acting
 pub mod ReadsKept
+pub mod OpenedValues
 pub mod HitAccesses
 pub mod HitValues
 pub mod CleanSteps
