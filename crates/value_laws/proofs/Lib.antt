@@ -46,3 +46,4 @@ pub mod HitAccesses
 pub mod HitValues
 pub mod CleanSteps
 pub mod CoreHits
+pub mod CompletedAccesses
