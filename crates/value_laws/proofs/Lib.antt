@@ -47,3 +47,4 @@ pub mod HitValues
 pub mod CleanSteps
 pub mod CoreHits
 pub mod CompletedAccesses
+pub mod EventReads
