@@ -98,7 +98,7 @@ module _ (d : Doc) (s new : ChipState) (e : OrdersNothing d s new) (reads : Read
   -- ---- a step of one unit
 
   -- without an access
-  quiet : NoneModified unit.node.chip unit.node.side.cache after.node.side.cache → after.node.chip ≡ unit.node.chip → new.accesses ≡ s.accesses
+  pub quiet : NoneModified unit.node.chip unit.node.side.cache after.node.side.cache → after.node.chip ≡ unit.node.chip → new.accesses ≡ s.accesses
       → ReadsHold d new
   quiet clean chip accesses =
       reads_stay d s new e t unit after c

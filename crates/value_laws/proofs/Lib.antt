@@ -48,3 +48,5 @@ pub mod CleanSteps
 pub mod CoreHits
 pub mod CompletedAccesses
 pub mod EventReads
+pub mod InOrderHits
+pub mod ReachedValues
