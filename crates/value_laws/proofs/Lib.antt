@@ -44,3 +44,4 @@ pub mod ReadsKept
 pub mod OpenedValues
 pub mod HitAccesses
 pub mod HitValues
+pub mod DeliveredPrefixes
