@@ -89,7 +89,7 @@ module _ (d : Doc) (s new : ChipState) (e : OrdersNothing d s new) (values : Val
       ap (λ (u : ℕ). gets_of_others u demand.line (between place unit.node.delivered s.network.ordered)) tile
       ∙ ap (gets_of_others t demand.line) between_is
 
-  completion : Completion d s new t unit after
+  pub completion : Completion d s new t unit after
   completion = record {
     at_unit = c.at;
     demand = demand;

@@ -17,7 +17,7 @@ use Rattle.chip_model.specs.Values.{place_of_shared, AnswersGet, MessageHasValue
 use Rattle.chip_laws.specs.EventSteps.{ChangesUnit}
 use Rattle.value_laws.proofs.SettledSteps.{OrdersNothing, now}
 use Rattle.value_laws.proofs.StepValues.{early_on}
-use Rattle.value_laws.proofs.StayedValues.{NodeStays, stays_settled, stayed_values}
+use Rattle.value_laws.proofs.StayedValues.{NodeStays, stays_settled, stayed_values, same_values}
 
 -- a demand with data that came early
 abbrev with_early : Demand → List ℕ → Demand
@@ -69,8 +69,8 @@ pub early_values : (d : Doc) (s new : ChipState) → OrdersNothing d s new → V
 early_values d s new e values t unit after c msg demand kind stands unordered answers node accesses stood =
     let form : after.node ≡ early_node unit.node demand msg.words = node ∙ arrived_early msg unit.node demand kind stands unordered in
     let stays : NodeStays unit.node after.node = subst (NodeStays unit.node) (sym form) (early_stays unit.node demand msg.words stands) in
-    let keeps = stays_settled d s new e values t unit after c accesses stays in
-    stayed_values d s new e values t unit after c accesses stays (record {
+    let keeps = stays_settled d s new e values t unit after c (same_values d s new accesses) stays in
+    stayed_values d s new e values t unit after c (same_values d s new accesses) stays (record {
       early = λ x words there early.
           let same : with_early demand msg.words ≡ x = same_Some (with_early demand msg.words) x (sym (ap (λ (n : Node). n.side.misses.demand) form) ∙ there) in
           let is : msg.words ≡ words = same_Some msg.words words (ap (λ (y : Demand). y.early) same ∙ early) in

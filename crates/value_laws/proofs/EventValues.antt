@@ -28,6 +28,7 @@ use Rattle.value_laws.specs.Sequences.{AreRising}
 use Rattle.value_laws.proofs.EventFrames.{orders_nothing}
 use Rattle.value_laws.proofs.GrownValues.{tick_values}
 use Rattle.value_laws.proofs.NodeEvents.{core_values, request_values, message_values}
+use Rattle.value_laws.proofs.StayedValues.{same_values}
 use Rattle.value_laws.proofs.QuietValues.{no_change, node_kept_values, message_sent_values, request_sent_values}
 use Rattle.value_laws.proofs.SettledSteps.{OrdersNothing}
 
@@ -48,7 +49,8 @@ module _ (messages : MessageLaws) (b : Behaviour) (laws : KeepsLaws b) (d : Doc)
       → ((router port slot : ℕ) (msg : Msg) → stands_at new.replies router port slot ≡ Some msg → MessageHasValue d s msg msg.kind) → ValuesHold d new
   networks event does order units accesses stands =
       let tile = tile_of d s 0 holds.protocol (tiles_some d fits.doc) in
-      node_kept_values d s new (orders_nothing messages b laws d s new event fits holds left does order) values 0 tile.unit tile.unit (no_change s new 0 tile.unit tile.unit_at units) refl accesses stands
+      node_kept_values d s new (orders_nothing messages b laws d s new event fits holds left does order) values 0 tile.unit tile.unit (no_change s new 0 tile.unit tile.unit_at units) refl
+      (same_values d s new accesses) stands
 
   core_works : (t : ℕ) (does : CoreWorks b s new t) → ValuesHold d new
   core_works t does = by (b.stepped does.unit).1 refl where

@@ -45,3 +45,5 @@ pub mod OpenedValues
 pub mod HitAccesses
 pub mod HitValues
 pub mod DeliveredPrefixes
+pub mod CleanSteps
+pub mod CoreHits

@@ -57,9 +57,9 @@ started : (node : Node) (cache : Cache) (access : Pending) → ((line : ℕ) (he
 started node cache access copies = record {
   copies = copies;
   demand = λ demand is. (
-      ap (λ (x : Demand). x.ordered) (sym (same_Some (started_by access) demand is)),
-      ap (λ (x : Demand). x.early) (sym (same_Some (started_by access) demand is)),
-    );
+    ap (λ (x : Demand). x.ordered) (sym (same_Some (started_by access) demand is)),
+    ap (λ (x : Demand). x.early) (sym (same_Some (started_by access) demand is)),
+  );
   back = λ back is. inl is;
 }
 

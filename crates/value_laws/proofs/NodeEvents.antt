@@ -46,6 +46,7 @@ use Rattle.value_laws.proofs.MissValues.{miss_values}
 use Rattle.value_laws.proofs.OrderedGetValues.{ordered_get_values}
 use Rattle.value_laws.proofs.OwnCompletedValues.{own_completed_values}
 use Rattle.value_laws.proofs.OwnDeliveries.{get_request}
+use Rattle.value_laws.proofs.StayedValues.{same_values}
 use Rattle.value_laws.proofs.QuietValues.{node_kept_values}
 use Rattle.value_laws.proofs.ReturnedValues.{returned_values}
 use Rattle.value_laws.proofs.SettledSteps.{OrdersNothing}
@@ -53,20 +54,20 @@ use Rattle.value_laws.proofs.SnoopedValues.{other_request_values}
 use Rattle.value_laws.proofs.WrittenBackValues.{written_back_values}
 
 -- ---- the access that a unit answers
-no_answer : (old new : UnitState) (done : Option Done) (answer : Option Access) → done ≡ None → Answers old new done answer → answer ≡ None
+pub no_answer : (old new : UnitState) (done : Option Done) (answer : Option Access) → done ≡ None → Answers old new done answer → answer ≡ None
 no_answer old new None answer is answers = answers.0
 no_answer old new (Some done) answer is answers = cc
 
-some_answer : (old new : UnitState) (done : Option Done) (answer : Option Access) (one : Done) → done ≡ Some one → Answers old new done answer
+pub some_answer : (old new : UnitState) (done : Option Done) (answer : Option Access) (one : Done) → done ≡ Some one → Answers old new done answer
     → (n : ℕ) × (answer ≡ Some (numbered old one n))
 some_answer old new None answer one is answers = cc
 some_answer old new (Some done) answer one is answers =
     let same : done ≡ one = cc in (answers.0, answers.1 ∙ ap (λ (x : Done). Some (numbered old x answers.0)) same)
 
-none_noted : (s new : ChipState) (answer : Option Access) → new.accesses ≡ with_access answer s.accesses → answer ≡ None → new.accesses ≡ s.accesses
+pub none_noted : (s new : ChipState) (answer : Option Access) → new.accesses ≡ with_access answer s.accesses → answer ≡ None → new.accesses ≡ s.accesses
 none_noted s new answer accesses none = accesses ∙ ap (λ (o : Option Access). with_access o s.accesses) none
 
-one_noted : (s new : ChipState) (answer : Option Access) (a : Access) → new.accesses ≡ with_access answer s.accesses → answer ≡ Some a → new.accesses ≡ s.accesses ++ a ∷ []
+pub one_noted : (s new : ChipState) (answer : Option Access) (a : Access) → new.accesses ≡ with_access answer s.accesses → answer ≡ Some a → new.accesses ≡ s.accesses ++ a ∷ []
 one_noted s new answer a accesses some = accesses ∙ ap (λ (o : Option Access). with_access o s.accesses) some
 
 -- ---- a core event without an access
@@ -75,7 +76,7 @@ module _ (d : Doc) (s new : ChipState) (e : OrdersNothing d s new) (values : Val
   stood replies router port slot msg there = values.channels router port slot msg (ap (λ (net : Network Msg). stands_at net router port slot) (sym replies) ∙ there)
 
   quiet_works : (unit : UnitState) (acted : Acted) → ChangesUnit s new t unit acted.0 → new.accesses ≡ s.accesses → new.replies ≡ s.replies → acted.1 ≡ None → Works unit acted → ValuesHold d new
-  quiet_works unit acted c accesses replies none (inl alone) = node_kept_values d s new e values t unit acted.0 c alone.node accesses (stood replies)
+  quiet_works unit acted c accesses replies none (inl alone) = node_kept_values d s new e values t unit acted.0 c alone.node (same_values d s new accesses) (stood replies)
   quiet_works unit acted c accesses replies none (inr tries) =
       miss_values d s new e values t unit acted.0 c tries.access tries.left tries.tried (nothing tries.left.1 refl tries.goes_on.answers) tries.goes_on.node accesses replies
     where
@@ -91,18 +92,18 @@ core_values b laws d s new e values fit t does none =
 
 -- ---- the delivery of a request
 -- of the tile's own
-own_done : (q : Request) (node : Node) → q.source ≡ node.tile → (node_after_request q node).1 ≡ (own_request node.chip node.side node.delivered q.kind).done
+pub own_done : (q : Request) (node : Node) → q.source ≡ node.tile → (node_after_request q node).1 ≡ (own_request node.chip node.side node.delivered q.kind).done
 unfolding node_after_request after_snoop
 own_done q node source =
     ap (λ (b : Bool). (cond b (own_request node.chip node.side node.delivered q.kind) (snooped_with node.chip q node.side (holding node.chip node.side q.line) q.kind)).done)
     (eq-eqb q.source node.tile source)
 
-completed_done : (chip : Chip) (demand : Demand) (place : ℕ) (words : List ℕ) (side : CacheSide) → (completed chip demand place words side).done ≡ Some (done_by demand.pending (place + 1) words)
+pub completed_done : (chip : Chip) (demand : Demand) (place : ℕ) (words : List ℕ) (side : CacheSide) → (completed chip demand place words side).done ≡ Some (done_by demand.pending (place + 1) words)
 completed_done chip demand place words side =
     cond_both (is_getm demand.kind) (completed_store chip demand place words side) (completed_load chip demand place words side)
     (λ outcome. outcome.done ≡ Some (done_by demand.pending (place + 1) words)) (λ writes. refl) (λ reads. refl)
 
-put_done : (node : Node) → (own_request node.chip node.side node.delivered PutM).done ≡ None
+pub put_done : (node : Node) → (own_request node.chip node.side node.delivered PutM).done ≡ None
 put_done node = by node.side.misses.back where
   by : (entry : Option _) → (own_put node.chip node.side entry).done ≡ None
   by None = refl
@@ -164,7 +165,7 @@ module _ (b : Behaviour) (laws : KeepsLaws b) (d : Doc) (s new : ChipState) (e :
   own_request_values = by_kind does.request.kind refl (own source)
 
 -- of another tile: no access is performed
-other_done : (q : Request) (node : Node) → q.source ≢ node.tile → (node_after_request q node).1 ≡ None
+pub other_done : (q : Request) (node : Node) → q.source ≢ node.tile → (node_after_request q node).1 ≡ None
 unfolding node_after_request after_snoop
 other_done q node away =
     ap (λ (b : Bool). (cond b (own_request node.chip node.side node.delivered q.kind) (snooped_with node.chip q node.side (holding node.chip node.side q.line) q.kind)).done)

@@ -41,11 +41,11 @@ tile_after line v q GetS true own k l o not_back =
 tile_after line v q GetM true own k l o not_back =
     (q.source, ap (λ (b : Bool). cond b (owner_by q.source q.kind (Tile v)) (Tile v)) l ∙ ap (λ (x : Kind). owner_by q.source x (Tile v)) k)
 tile_after line v q PutM true false k l o not_back = (
-    v,
-    ap (λ (b : Bool). cond b (owner_by q.source q.kind (Tile v)) (Tile v)) l
-    ∙ ap (λ (x : Kind). owner_by q.source x (Tile v)) k
-    ∙ ap (λ (b : Bool). cond b Memory (Tile v)) o,
-  )
+  v,
+  ap (λ (b : Bool). cond b (owner_by q.source q.kind (Tile v)) (Tile v)) l
+      ∙ ap (λ (x : Kind). owner_by q.source x (Tile v)) k
+      ∙ ap (λ (b : Bool). cond b Memory (Tile v)) o,
+)
 tile_after line v q PutM true true k l o not_back =
     let is : writes_back_as line (Tile v) (Some q) ≡ true =
     ap (λ (x : Kind). not (is_get x) && (q.line == line) && is_tile q.source (Tile v)) k

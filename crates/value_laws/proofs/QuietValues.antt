@@ -11,6 +11,7 @@ use Rattle.chip_model.specs.Misses.{Demand, WriteBack, Misses, sent_demand, mark
 use Rattle.chip_model.specs.Node.{Node, after_request_sent, after_message_sent}
 use Rattle.chip_model.specs.Units.{UnitState}
 use Rattle.chip_model.specs.ChipState.{ChipState}
+use Rattle.chip_model.specs.Witness.{line_value}
 use Rattle.chip_model.specs.Writers.{is_ordered_write}
 use Rattle.chip_model.specs.Values.{place_of_demand, place_of_shared, AnswersGet, MessageHasValue, ValuesHold}
 use Rattle.snoop_core.proofs.Sending.{sent_forms}
@@ -21,7 +22,7 @@ use Rattle.chip_laws.specs.DocFits.{DocFits}
 use Rattle.supply_laws.proofs.Carried.{sent_stands}
 use Rattle.value_laws.proofs.SettledSteps.{OrdersNothing, now}
 use Rattle.value_laws.proofs.StepValues.{early_on}
-use Rattle.value_laws.proofs.StayedValues.{BackStood, NodeStays, node_same, HasSent, stays_settled, stayed_values}
+use Rattle.value_laws.proofs.StayedValues.{BackStood, NodeStays, node_same, HasSent, stays_settled, stayed_values, same_values}
 
 -- ---- the node is as it was
 
@@ -38,13 +39,13 @@ no_change s new t unit at units = record { at = at; units = units ∙ sym (set_s
 -- a unit changes, and its node does not
 pub node_kept_values : (d : Doc) (s new : ChipState) → OrdersNothing d s new → ValuesHold d s → (t : ℕ) (unit after : UnitState)
     → ChangesUnit s new t unit after
-    → after.node ≡ unit.node → new.accesses ≡ s.accesses
+    → after.node ≡ unit.node → ((line place : ℕ) → line_value d new.accesses line place ≡ line_value d s.accesses line place)
     → ((router port slot : ℕ) (msg : Msg) → stands_at new.replies router port slot ≡ Some msg → MessageHasValue d s msg msg.kind) → ValuesHold d new
-node_kept_values d s new e values t unit after c node accesses stood =
+node_kept_values d s new e values t unit after c node same stood =
     let stays : NodeStays unit.node after.node = subst (NodeStays unit.node) (sym node) (node_same unit.node) in
-    let keeps = stays_settled d s new e values t unit after c accesses stays in
+    let keeps = stays_settled d s new e values t unit after c same stays in
     let was = values.nodes t unit c.at in
-    stayed_values d s new e values t unit after c accesses stays (record {
+    stayed_values d s new e values t unit after c same stays (record {
       early = λ demand words stands early.
           early_on d s new e t unit after c keeps t unit after demand words c.at (now d s new e t unit after c) stands early
           (was.early demand words (ap (λ (n : Node). n.side.misses.demand) (sym node) ∙ stands) early);
@@ -82,9 +83,9 @@ pub message_sent_values : (d : Doc) (s new : ChipState) → OrdersNothing d s ne
     → new.accesses ≡ s.accesses → ValuesHold d new
 message_sent_values d s new e values t unit after c node msg first enters accesses =
     let stays : NodeStays unit.node after.node = subst (NodeStays unit.node) (sym node) (message_stays unit.node) in
-    let keeps = stays_settled d s new e values t unit after c accesses stays in
+    let keeps = stays_settled d s new e values t unit after c (same_values d s new accesses) stays in
     let was = values.nodes t unit c.at in
-    stayed_values d s new e values t unit after c accesses stays (record {
+    stayed_values d s new e values t unit after c (same_values d s new accesses) stays (record {
       early = λ demand words stands early.
           early_on d s new e t unit after c keeps t unit after demand words c.at (now d s new e t unit after c) stands early
           (was.early demand words (sym (ap (λ (n : Node). n.side.misses.demand) node ∙ message_demand unit.node) ∙ stands) early);
@@ -165,9 +166,9 @@ pub request_sent_values : (d : Doc) (s new : ChipState) → OrdersNothing d s ne
     → after.node ≡ after_request_sent unit.node → new.accesses ≡ s.accesses → new.replies ≡ s.replies → ValuesHold d new
 request_sent_values d s new e values t unit after c node accesses replies =
     let stays : NodeStays unit.node after.node = subst (NodeStays unit.node) (sym node) (request_stays unit.node) in
-    let keeps = stays_settled d s new e values t unit after c accesses stays in
+    let keeps = stays_settled d s new e values t unit after c (same_values d s new accesses) stays in
     let was = values.nodes t unit c.at in
-    stayed_values d s new e values t unit after c accesses stays (record {
+    stayed_values d s new e values t unit after c (same_values d s new accesses) stays (record {
       early = λ demand words stands early.
           let is = ap (λ (n : Node). n.side.misses.demand) node ∙ ap (λ (m : Misses). m.demand) (request_misses unit.node) in
           let (old, stood, line, same) = (sent_misses unit.node.side.misses).early demand (sym is ∙ stands) in

@@ -87,7 +87,7 @@ module _ (d : Doc) (s : ChipState) (fits : DocLaws d) (holds : ProtocolHolds d s
             let clash : Memory ≡ Tile back.put.source = sym still ∙ (ap (λ (k : ℕ). owner line (take k ordered)) sum ∙ back.owned) in
             absurd (cc))
         | inr first ↦ absurd (both_ways (writes_back line ordered place)
-          (none_beyond first.place place first.get (omega (arith, beyond, first.beyond)) first.at first.kind first.same first.owned (omega (arith, first.before, sum))) writes)
+            (none_beyond first.place place first.get (omega (arith, beyond, first.beyond)) first.at first.kind first.same first.owned (omega (arith, first.before, sum))) writes)
       ]
 
   -- ---- words that were written back last
@@ -140,8 +140,8 @@ module _ (d : Doc) (s : ChipState) (fits : DocLaws d) (holds : ProtocolHolds d s
         elim (first_write line (place + 1) (k - (place + 1)) ordered (omega (arith, sum, less, within)) (memory_after_back line place ordered last.passes)) [
           | inl still ↦ subst (λ (m : ℕ). owner line (take m ordered) ≡ Memory) sum still
           | inr first ↦ absurd (both_ways (is_getm first.get.kind)
-            (waits.first first.place first.get (omega (arith, first.beyond)) (omega (arith, first.before, sum, less)) first.at (counts_of first.get first.kind first.same))
-            (ap is_getm first.kind))
+              (waits.first first.place first.get (omega (arith, first.beyond)) (omega (arith, first.before, sum, less)) first.at (counts_of first.get first.kind first.same))
+              (ap is_getm first.kind))
         ]
 
     -- the words answer the get of one that waits

@@ -1,5 +1,5 @@
--- A step leaves the copies of a node, its records and its count as they are: all values stay.
-use Rattle.std.proofs.Common.{◌≡◌, ℕ, true, Some, None, List, refl, sym, ◌∙◌, ap, subst}
+-- A step leaves the copies of a node, its records and its count as they are, and writes nothing: all values stay.
+use Rattle.std.proofs.Common.{◌≡◌, ℕ, true, Some, None, List, inl, refl, sym, ◌∙◌, ap, subst}
 use Rattle.std.specs.Prelude.{slice_get, slice_index_or}
 use Rattle.mesh_gen.specs.declared.msg.Msg.{Msg}
 use Rattle.vc_bank.specs.Places.{at as stands_at}
@@ -16,8 +16,8 @@ use Rattle.chip_model.specs.NodeShape.{is_modified}
 use Rattle.chip_model.specs.Witness.{line_value}
 use Rattle.chip_model.specs.Values.{HasValue, place_of_shared, AnswersGet, MessageHasValue, NodeHasValues, ValuesHold}
 use Rattle.chip_laws.specs.EventSteps.{ChangesUnit}
-use Rattle.value_laws.proofs.SettledSteps.{OrdersNothing, now}
-use Rattle.value_laws.proofs.StepValues.{KeepsSettled, quiet_keeps, value_on, itself_copy_on, message_on, record_on, values_on}
+use Rattle.value_laws.proofs.SettledSteps.{OrdersNothing, now, settled_on}
+use Rattle.value_laws.proofs.StepValues.{KeepsSettled, value_on, itself_copy_on, message_on, record_on, values_on}
 
 -- a write-back stood with the same line and words, and was live
 pub record BackStood (node : Node) (back : WriteBack) : Type 0 where
@@ -54,13 +54,16 @@ pub record HasSent (d : Doc) (s new : ChipState) (after : Node) : Type 0 where
 
 module _ (d : Doc) (s new : ChipState) (e : OrdersNothing d s new) (values : ValuesHold d s) (t : ℕ) (unit after : UnitState)
     (c : ChangesUnit s new t unit after)
-    (accesses : new.accesses ≡ s.accesses) (stays : NodeStays unit.node after.node) where
+    (same : (line place : ℕ) → line_value d new.accesses line place ≡ line_value d s.accesses line place) (stays : NodeStays unit.node after.node) where
   copy_stood : (line : ℕ) → lookup after.node.chip after.node.side.cache line ≡ lookup unit.node.chip unit.node.side.cache line
   copy_stood line =
       ap (λ (x : Chip). lookup x after.node.side.cache line) stays.chip ∙ ap (λ (x : Cache). lookup unit.node.chip x line) stays.cache
 
   pub stays_settled : KeepsSettled d s new unit after
-  stays_settled = quiet_keeps d s new e t unit after c accesses (λ line only. ap is_modified (sym (copy_stood line)) ∙ only)
+  stays_settled = record {
+    settled = λ line place is. settled_on d s new e t unit after c line place (λ only. inl (ap is_modified (sym (copy_stood line)) ∙ only)) is;
+    value = λ line place is. same line place;
+  }
 
   back_stays : (back : WriteBack) → BackStood unit.node back → HasValue d new back.line after.node.delivered back.words
   back_stays back stood =
@@ -74,7 +77,7 @@ module _ (d : Doc) (s new : ChipState) (e : OrdersNothing d s new) (values : Val
   node_stays sent = record {
     copies = λ line held there.
         itself_copy_on d s new e t unit after c stays_settled line held held.state stays.delivered (stays.shared line)
-        (λ only. ap (λ (xs : List Access). line_value d xs line unit.node.delivered) accesses)
+        (λ only. same line unit.node.delivered)
         ((values.nodes t unit c.at).copies line held (sym (copy_stood line) ∙ there));
     back = λ back stands live. back_stays back (stays.back back stands live);
     early = sent.early;
@@ -89,3 +92,8 @@ module _ (d : Doc) (s new : ChipState) (e : OrdersNothing d s new) (values : Val
   pub stayed_values : HasSent d s new after.node
       → ((router port slot : ℕ) (msg : Msg) → stands_at new.replies router port slot ≡ Some msg → MessageHasValue d s msg msg.kind) → ValuesHold d new
   stayed_values sent stood = values_on d s new e t unit after c stays_settled values (node_stays sent) stood
+
+-- where no access is performed the values of lines are the same
+pub same_values : (d : Doc) (s new : ChipState) → new.accesses ≡ s.accesses → (line place : ℕ)
+    → line_value d new.accesses line place ≡ line_value d s.accesses line place
+same_values d s new accesses line place = ap (λ (xs : List Access). line_value d xs line place) accesses
