@@ -1,28 +1,25 @@
 -- What a run delivers to a tile is a prefix of the order.
-use Rattle.std.proofs.Common.{◌≡◌, ◌≢◌, ℕ, zero, suc, ◌+◌, Bool, true, false, cond, refl, sym, ◌∙◌, ap, subst, arith, inl, inr, Option, Some, None, List, [], ◌∷◌, ◌++◌, take, length}
+use Rattle.std.proofs.Common.{◌≡◌, ℕ, zero, suc, ◌+◌, Bool, true, false, cond, refl, sym, ◌∙◌, ap, subst, inl, inr, Option, Some, List, [], ◌∷◌, ◌++◌, take}
 use Rattle.std.specs.Prelude.{◌==◌, slice_get}
 use Rattle.std.proofs.lemmas.Bool.{cases_eq, eq-eqb, ne_eqb}
 use Rattle.std.proofs.lemmas.List.{append-nil, append_assoc, take-append-le}
 use Rattle.std.proofs.lemmas.Option.{same_Some}
-use Rattle.mesh_gen.specs.Partial.{◌>>=◌}
 use Rattle.mesh_gen.specs.declared.request.Request.{Request}
-use Rattle.mesh_gen.specs.declared.port.Port.{Port}
 use Rattle.mesh_gen.specs.declared.msg.Msg.{Msg}
 use Rattle.mesh_gen.specs.declared.msg_kind.MsgKind.{MsgKind}
 use Rattle.mesh_gen.specs.declared.msg_kind.MsgKind.TheVariants.{Data, Back}
 use Rattle.report_text.specs.declared.event.Event.{Event}
 use Rattle.report_text.specs.declared.event.Event.TheVariants.{Tick, Core, Inject, Post, Take, Eject, Send, Hop, DataHop, DataEject}
 use Rattle.doc_text.specs.Doc.{Doc}
-use Rattle.chip_model.specs.Chip.{Chip, chip_of}
+use Rattle.chip_model.specs.Chip.{chip_of}
 use Rattle.chip_model.specs.OrderedNetwork.{OrderedNetwork, after_delivery}
 use Rattle.chip_model.specs.Node.{Node, node_after_request, node_after_message, arrived_as, after_request_sent, after_message_sent}
 use Rattle.chip_model.specs.Units.{UnitState, Behaviour, Acted}
 use Rattle.chip_model.specs.ChipState.{ChipState, opening}
 use Rattle.chip_model.specs.BehaviourLaws.{KeepsLaws, Works}
-use Rattle.chip_model.specs.Runs.{noted, after, run}
+use Rattle.chip_model.specs.Runs.{after, run}
 use Rattle.chip_model.specs.Suppliers.{count_of, delivered_at}
 use Rattle.snoop_core.proofs.Accesses.{accessed_frame}
-use Rattle.chip_laws.specs.DocFits.{DocFits}
 use Rattle.chip_laws.specs.DocLaws.{DocLaws}
 use Rattle.chip_laws.specs.EventSteps.{CoreWorks, RequestComes, EventDoes}
 use Rattle.chip_laws.proofs.Deliveries.{deliveries_fit}
@@ -59,7 +56,8 @@ delivered_count q node = refl
 
 module _ (b : Behaviour) (laws : KeepsLaws b) (d : Doc) (s new : ChipState) (fits : DocLaws d) (holds : StateHolds b laws d s) (t : ℕ) where
   -- a count that stays, in an order that may grow
-  stays : (event : Event) → EventDoes b (chip_of d) s new event → delivered_at new t ≡ delivered_at s t → take (delivered_at new t) new.network.ordered ≡ take (delivered_at s t) s.network.ordered
+  stays : (event : Event) → EventDoes b (chip_of d) s new event → delivered_at new t ≡ delivered_at s t
+      → take (delivered_at new t) new.network.ordered ≡ take (delivered_at s t) s.network.ordered
   stays event does count =
       let grows = order_grows b (chip_of d) s new event does in
       ap (λ (n : ℕ). take n new.network.ordered) count
@@ -69,7 +67,8 @@ module _ (b : Behaviour) (laws : KeepsLaws b) (d : Doc) (s new : ChipState) (fit
   units_same : new.units ≡ s.units → delivered_at new t ≡ delivered_at s t
   units_same same = ap (λ (units : List UnitState). count_of (slice_get units t)) same
 
-  core_count : (unit : UnitState) (acted : Acted) → slice_get s.units unit.node.tile ≡ Some unit → Works unit acted → acted.0.node.delivered ≡ unit.node.delivered
+  core_count : (unit : UnitState) (acted : Acted) → slice_get s.units unit.node.tile ≡ Some unit → Works unit acted
+      → acted.0.node.delivered ≡ unit.node.delivered
   core_count unit acted at (inl alone) = ap (λ (n : Node). n.delivered) alone.node
   core_count unit acted at (inr tries) =
       ap (λ (n : Node). n.delivered) tries.goes_on.node
@@ -84,7 +83,8 @@ module _ (b : Behaviour) (laws : KeepsLaws b) (d : Doc) (s new : ChipState) (fit
       (core_count does.unit (b.stepped does.unit) (ap (slice_get s.units) tile ∙ does.changes.at) works) t
 
   eject_goes : (u : ℕ) (does : RequestComes b (chip_of d) s new u) → (here : Bool) → (u == t) ≡ here
-      → take (delivered_at s t) s.network.ordered ++ cond {A = List Request} here (delivered_request (after_delivery (chip_of d) s.network u)) [] ≡ take (delivered_at new t) new.network.ordered
+      → take (delivered_at s t) s.network.ordered ++ cond {A = List Request} here (delivered_request (after_delivery (chip_of d) s.network u)) []
+      ≡ take (delivered_at new t) new.network.ordered
   eject_goes u does here test = elim (cases_eq u t) [
     | inl same ↦ (
         let passes : here ≡ true = sym test ∙ eq-eqb u t same in
@@ -94,7 +94,8 @@ module _ (b : Behaviour) (laws : KeepsLaws b) (d : Doc) (s new : ChipState) (fit
         (laws.delivered does.request does.unit (holds.fit u does.unit does.changes.at)).1.goes_on.node in
         let is : delivered_at new t ≡ does.unit.node.delivered + 1 =
         ap (delivered_at new) (sym same) ∙ counts.1 ∙ ap (λ (n : Node). n.delivered) node ∙ delivered_count does.request does.unit.node in
-        ap (λ (x : Bool). take (delivered_at s t) s.network.ordered ++ cond {A = List Request} x (delivered_request (after_delivery (chip_of d) s.network u)) []) passes
+        ap (λ (x : Bool). take (delivered_at s t) s.network.ordered ++ cond {A = List Request} x
+        (delivered_request (after_delivery (chip_of d) s.network u)) []) passes
         ∙ ap (λ (o : Option (Request × OrderedNetwork)). take (delivered_at s t) s.network.ordered ++ delivered_request o) does.network
         ∙ ap (λ (n : ℕ). take n s.network.ordered ++ does.request ∷ []) was
         ∙ sym (take_next s.network.ordered does.unit.node.delivered does.request
@@ -103,12 +104,14 @@ module _ (b : Behaviour) (laws : KeepsLaws b) (d : Doc) (s new : ChipState) (fit
         ∙ ap (take (delivered_at new t)) (sym (delivered_order (chip_of d) s.network new.network u does.request does.network)))
     | inr away ↦ (
         let fails : here ≡ false = sym test ∙ ne_eqb u t away in
-        ap (λ (x : Bool). take (delivered_at s t) s.network.ordered ++ cond {A = List Request} x (delivered_request (after_delivery (chip_of d) s.network u)) []) fails
+        ap (λ (x : Bool). take (delivered_at s t) s.network.ordered ++ cond {A = List Request} x
+        (delivered_request (after_delivery (chip_of d) s.network u)) []) fails
         ∙ append-nil (take (delivered_at s t) s.network.ordered)
         ∙ sym (stays (Eject u) does (count_there s new u t does.unit (b.delivered does.request does.unit).0 does.changes (λ same. away (sym same)))))
   ]
 
-  nothing : (event : Event) → EventDoes b (chip_of d) s new event → delivered_at new t ≡ delivered_at s t → take (delivered_at s t) s.network.ordered ++ [] ≡ take (delivered_at new t) new.network.ordered
+  nothing : (event : Event) → EventDoes b (chip_of d) s new event → delivered_at new t ≡ delivered_at s t
+      → take (delivered_at s t) s.network.ordered ++ [] ≡ take (delivered_at new t) new.network.ordered
   nothing event does count = append-nil (take (delivered_at s t) s.network.ordered) ∙ sym (stays event does count)
 
   pub event_delivers : (event : Event) → EventDoes b (chip_of d) s new event
@@ -116,19 +119,22 @@ module _ (b : Behaviour) (laws : KeepsLaws b) (d : Doc) (s new : ChipState) (fit
   event_delivers Tick does = nothing Tick does (units_same does.units)
   event_delivers (Core u) does = nothing (Core u) does (works_count u does)
   event_delivers (Inject u) does =
-      nothing (Inject u) does (same_counts s new u does.unit (record does.unit { node = after_request_sent does.unit.node }) does.changes (sent_count does.unit.node) t)
+      nothing (Inject u) does (same_counts s new u does.unit (record does.unit { node = after_request_sent does.unit.node }) does.changes
+      (sent_count does.unit.node) t)
   event_delivers (Post u) does = nothing (Post u) does (units_same does.units)
   event_delivers (Take u) does = nothing (Take u) does (units_same does.units)
   event_delivers (Eject u) does = eject_goes u does (u == t) refl
   event_delivers (Send u) does =
-      nothing (Send u) does (same_counts s new u does.unit (record does.unit { node = after_message_sent does.unit.node }) does.changes (queue_count does.unit.node) t)
+      nothing (Send u) does (same_counts s new u does.unit (record does.unit { node = after_message_sent does.unit.node }) does.changes
+      (queue_count does.unit.node) t)
   event_delivers (Hop r port slot out) does = nothing (Hop r port slot out) does (units_same does.units)
   event_delivers (DataHop r port slot) does = nothing (DataHop r port slot) does (units_same does.units)
   event_delivers (DataEject r port slot) does =
       let node : (b.received does.msg does.unit).0.node ≡ (node_after_message does.msg does.unit.node).0 =
       (laws.received does.msg does.unit (holds.fit r does.unit does.changes.at)).1.goes_on.node in
       nothing (DataEject r port slot) does
-      (same_counts s new r does.unit (b.received does.msg does.unit).0 does.changes (ap (λ (n : Node). n.delivered) node ∙ comes_count does.msg does.unit.node) t)
+      (same_counts s new r does.unit (b.received does.msg does.unit).0 does.changes
+      (ap (λ (n : Node). n.delivered) node ∙ comes_count does.msg does.unit.node) t)
 
 -- ---- along a run
 run_delivers : IsKept → (b : Behaviour) (laws : KeepsLaws b) (d : Doc) (events : List Event) (s last : ChipState) (t : ℕ) → DocLaws d → StateHolds b laws d s
@@ -144,7 +150,8 @@ run_delivers kept b laws d (event ∷ events) s last t fits holds e =
     let delivers : take (delivered_at s t) s.network.ordered ++ delivered_by (chip_of d) s t event ≡ take (delivered_at new t) new.network.ordered =
     event_delivers b laws d s left fits holds t event (event_does b (chip_of d) s left event stepped)
     ∙ ap (λ (x : ChipState). take (delivered_at x t) x.network.ordered) noted_is in
-    ap (λ (o : Option ChipState). take (delivered_at s t) s.network.ordered ++ (delivered_by (chip_of d) s t event ++ deliveries b (chip_of d) t o events)) first
+    ap (λ (o : Option ChipState). take (delivered_at s t) s.network.ordered ++
+    (delivered_by (chip_of d) s t event ++ deliveries b (chip_of d) t o events)) first
     ∙ sym (append_assoc (take (delivered_at s t) s.network.ordered) (delivered_by (chip_of d) s t event) (deliveries b (chip_of d) t (Some new) events))
     ∙ ap (λ (requests : List Request). requests ++ deliveries b (chip_of d) t (Some new) events) delivers
     ∙ run_delivers kept b laws d events new last t fits (subst (StateHolds b laws d) noted_is (noted_state b laws d left event next)) rest)
@@ -154,7 +161,8 @@ take_none : {X : Type 0} (n : ℕ) → take {A = X} n [] ≡ []
 take_none zero = refl
 take_none (suc n) = refl
 
-pub run_prefix : IsKept → (b : Behaviour) (laws : KeepsLaws b) (d : Doc) (events : List Event) (s : ChipState) (t : ℕ) → DocLaws d → StateHolds b laws d (opening d)
+pub run_prefix : IsKept → (b : Behaviour) (laws : KeepsLaws b) (d : Doc) (events : List Event) (s : ChipState) (t : ℕ) → DocLaws d
+    → StateHolds b laws d (opening d)
     → run b (chip_of d) (opening d) events ≡ Some s → deliveries b (chip_of d) t (Some (opening d)) events ≡ take (delivered_at s t) s.network.ordered
 run_prefix kept b laws d events s t fits holds e =
     let none : take (delivered_at (opening d) t) [] ≡ [] = take_none (delivered_at (opening d) t) in
