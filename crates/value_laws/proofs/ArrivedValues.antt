@@ -23,7 +23,7 @@ use Rattle.chip_laws.specs.EventSteps.{ChangesUnit}
 use Rattle.chip_laws.proofs.SuppliedEvents.{unit_holds}
 use Rattle.supply_laws.proofs.GetPlaces.{at_waits}
 use Rattle.value_laws.specs.Sequences.{AreRising}
-use Rattle.value_laws.proofs.Completion.{Completion, value_elsewhere}
+use Rattle.value_laws.proofs.Completion.{Completion, CompletesBy, value_elsewhere}
 use Rattle.value_laws.proofs.CompletedValues.{back_stood, shared_at, completion_keeps, completed_node}
 use Rattle.value_laws.proofs.OwnDeliveries.{of_append}
 use Rattle.value_laws.proofs.SettledSteps.{OrdersNothing}
@@ -90,7 +90,7 @@ module _ (d : Doc) (s new : ChipState) (e : OrdersNothing d s new) (values : Val
       ap (λ (u : ℕ). gets_of_others u demand.line (between place unit.node.delivered s.network.ordered)) tile
       ∙ ap (gets_of_others t demand.line) between_is
 
-  pub completion : Completion d s new t unit after
+  completion : Completion d s new t unit after
   completion = record {
     at_unit = c.at;
     demand = demand;
@@ -122,8 +122,16 @@ module _ (d : Doc) (s new : ChipState) (e : OrdersNothing d s new) (values : Val
     value = refl;
   }
 
+<<<<<<< HEAD
   other_copy : (m : ℕ) (held : Held) → m ≢ demand.line → lookup unit.node.chip unit.node.side.cache m ≡ Some held
       → lookup after.node.chip after.node.side.cache m ≡ Some held
+=======
+  pub completes : CompletesBy d s new t unit after number
+  unfolding completion
+  completes = record { is = completion; same = refl }
+
+  other_copy : (m : ℕ) (held : Held) → m ≢ demand.line → lookup unit.node.chip unit.node.side.cache m ≡ Some held → lookup after.node.chip after.node.side.cache m ≡ Some held
+>>>>>>> 56486bbf28bcc77b7a4fecc3ba01125637c048b1
       → CopyHasValue d new after.node m held held.state
   unfolding completion
   other_copy m held away stood there =

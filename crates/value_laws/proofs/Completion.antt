@@ -12,9 +12,10 @@ use Rattle.report_text.specs.Accesses.{writes, word_after}
 use Rattle.doc_text.specs.Doc.{Doc}
 use Rattle.chip_model.specs.Chip.{line_of, word_of}
 use Rattle.chip_model.specs.Misses.{Demand, is_getm, request_for}
-use Rattle.chip_model.specs.Snoop.{completed, word_in, written_by}
+use Rattle.chip_model.specs.Snoop.{completed, done_by, word_in, written_by}
 use Rattle.chip_model.specs.Units.{UnitState}
 use Rattle.chip_model.specs.ChipState.{ChipState}
+use Rattle.chip_model.specs.BehaviourLaws.{numbered}
 use Rattle.chip_model.specs.NodeShape.{DemandFits}
 use Rattle.chip_model.specs.Bookkeeping.{is_get_of, between, gets_of_others, up_to_getm, waiting_for}
 use Rattle.chip_model.specs.Suppliers.{place_of_get}
@@ -57,6 +58,11 @@ pub record Completion (d : Doc) (s new : ChipState) (t : ℕ) (unit after : Unit
   pub address : access.address ≡ demand.pending.address
   pub access_kind : access.kind ≡ demand.pending.kind
   pub value : access.value ≡ word_after demand.pending.kind demand.pending.value (word_in words demand.pending.address)
+
+-- the access of a completion is that of its demand, with the words that came
+pub record CompletesBy (d : Doc) (s new : ChipState) (t : ℕ) (unit after : UnitState) (number : ℕ) : Type 0 where
+  pub is : Completion d s new t unit after
+  pub same : is.access ≡ numbered unit (done_by is.demand.pending (is.place + 1) is.words) number
 
 -- a kind of access writes where its request asks to
 writes_asks : (kind : AccessKind) → writes kind ≡ is_getm (request_for kind)

@@ -262,13 +262,14 @@ module _ (d : Doc) (s new : ChipState) (more : List Request) (g : GrowsAlone d s
         message_by msg msg.kind (λ kind. carried_due s router port slot msg stood kind) (values.channels router port slot msg stood);
   }
 
--- a tick keeps all values
-pub tick_values : (d : Doc) (s new : ChipState) → DocLaws d → ProtocolHolds d s → ValuesHold d s
-    → ChangesNetwork (after_network_tick (chip_of d) s.network) s new → ValuesHold d new
-tick_values d s new fits holds values does =
+-- a tick lets the order grow, and changes nothing else
+pub ticks_grow : (d : Doc) (s new : ChipState) (fits : DocLaws d) (holds : ProtocolHolds d s)
+    (does : ChangesNetwork (after_network_tick (chip_of d) s.network) s new)
+    → GrowsAlone d s new (ticked d s new fits holds does).more
+ticks_grow d s new fits holds does =
     let is = ticked d s new fits holds does in
     let after = ticked_network d s new fits holds does in
-    grown_values d s new is.more (record {
+    record {
       before = holds;
       orders = record {
         grows = record { units = is.units; order = is.order; replies = does.replies };
@@ -290,4 +291,9 @@ tick_values d s new fits holds values does =
       units = does.units;
       accesses = does.accesses;
       replies = does.replies;
-    }) values
+    }
+
+-- a tick keeps all values
+pub tick_values : (d : Doc) (s new : ChipState) → DocLaws d → ProtocolHolds d s → ValuesHold d s
+    → ChangesNetwork (after_network_tick (chip_of d) s.network) s new → ValuesHold d new
+tick_values d s new fits holds values does = grown_values d s new (ticked d s new fits holds does).more (ticks_grow d s new fits holds does) values

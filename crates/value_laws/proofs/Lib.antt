@@ -47,3 +47,5 @@ pub mod HitValues
 pub mod DeliveredPrefixes
 pub mod CleanSteps
 pub mod CoreHits
+pub mod CompletedAccesses
+pub mod EventReads

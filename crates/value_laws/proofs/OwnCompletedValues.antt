@@ -33,7 +33,7 @@ use Rattle.supply_laws.proofs.GetPlaces.{get_of, undelivered_open}
 use Rattle.supply_laws.proofs.PlaceEvents.{one_of}
 use Rattle.value_laws.specs.Sequences.{AreRising}
 use Rattle.value_laws.proofs.AnsweredValues.{records_next, home_sends}
-use Rattle.value_laws.proofs.Completion.{Completion, value_elsewhere}
+use Rattle.value_laws.proofs.Completion.{Completion, CompletesBy, value_elsewhere}
 use Rattle.value_laws.proofs.CompletedValues.{idle, back_stood, completion_keeps, completed_node}
 use Rattle.value_laws.proofs.MissValues.{shared_at_count}
 use Rattle.value_laws.proofs.NextValues.{KeepsShared, latest_within, copy_next, back_next}
@@ -112,7 +112,7 @@ module _ (d : Doc) (s new : ChipState) (e : OrdersNothing d s new) (values : Val
   none_since : between n after.node.delivered s.network.ordered ≡ []
   none_since = ap (λ (k : ℕ). between n k s.network.ordered) count ∙ between_none s.network.ordered n (slice_get_within s.network.ordered n q next)
 
-  pub completion : Completion d s new t unit after
+  completion : Completion d s new t unit after
   completion =
       let fresh = ((unit_holds d s t unit e.before c.at).holds.node.fits.side.demand demand stands).unordered is_for.unordered in
       record {
@@ -147,6 +147,10 @@ module _ (d : Doc) (s new : ChipState) (e : OrdersNothing d s new) (values : Val
         access_kind = refl;
         value = refl;
       }
+
+  pub completes : CompletesBy d s new t unit after number
+  unfolding completion
+  completes = record { is = completion; same = refl }
 
   shared : (line : ℕ) → KeepsShared unit.node after.node line
   shared line = record {
