@@ -122,16 +122,12 @@ module _ (d : Doc) (s new : ChipState) (e : OrdersNothing d s new) (values : Val
     value = refl;
   }
 
-<<<<<<< HEAD
-  other_copy : (m : ℕ) (held : Held) → m ≢ demand.line → lookup unit.node.chip unit.node.side.cache m ≡ Some held
-      → lookup after.node.chip after.node.side.cache m ≡ Some held
-=======
   pub completes : CompletesBy d s new t unit after number
   unfolding completion
   completes = record { is = completion; same = refl }
 
-  other_copy : (m : ℕ) (held : Held) → m ≢ demand.line → lookup unit.node.chip unit.node.side.cache m ≡ Some held → lookup after.node.chip after.node.side.cache m ≡ Some held
->>>>>>> 56486bbf28bcc77b7a4fecc3ba01125637c048b1
+  other_copy : (m : ℕ) (held : Held) → m ≢ demand.line → lookup unit.node.chip unit.node.side.cache m ≡ Some held
+      → lookup after.node.chip after.node.side.cache m ≡ Some held
       → CopyHasValue d new after.node m held held.state
   unfolding completion
   other_copy m held away stood there =
