@@ -70,7 +70,8 @@ answer_left q r Memory owned = by r.fresh refl where
 answer_left q r (Tile tile) owned = tile_left q r tile q.kind owned
 
 -- ---- one record is replaced
-pub is_set : (records : Records) (m line : ℕ) (old left r : LineRecord) → slice_index_or records m None ≡ Some old → slice_index_or (set records m (Some left)) line None ≡ Some r
+pub is_set : (records : Records) (m line : ℕ) (old left r : LineRecord) → slice_index_or records m None ≡ Some old
+    → slice_index_or (set records m (Some left)) line None ≡ Some r
     → ((line ≡ m) × (r ≡ left)) ⊎ (slice_index_or records line None ≡ Some r)
 is_set [] m line old left r there at = cc
 is_set (first ∷ records) zero zero old left r there at = inl (refl, sym (same_Some left r at))
@@ -87,10 +88,12 @@ record WasRecord (records : Records) (line : ℕ) (r : LineRecord) : Type 0 wher
   pub there : slice_index_or records line None ≡ Some old
   pub left : AnswerLeaves old r
 
-was_record : (q : Request) (records : Records) (line : ℕ) (r : LineRecord) → slice_index_or (answered q records).records line None ≡ Some r → WasRecord records line r
+was_record : (q : Request) (records : Records) (line : ℕ) (r : LineRecord) → slice_index_or (answered q records).records line None ≡ Some r
+    → WasRecord records line r
 unfolding answered
 was_record q records line r at = by (slice_index_or records q.line None) refl at where
-  by : (entry : Option LineRecord) → slice_index_or records q.line None ≡ entry → slice_index_or (answered_at q records entry).records line None ≡ Some r → WasRecord records line r
+  by : (entry : Option LineRecord) → slice_index_or records q.line None ≡ entry → slice_index_or (answered_at q records entry).records line None ≡ Some r
+      → WasRecord records line r
   by None there is = record { old = r; there = is; left = same_left r }
   by (Some old) there is = elim (is_set records q.line line old (answered_by q old old.owner).left r there is) [
     | inl here ↦ record {
@@ -102,8 +105,10 @@ was_record q records line r at = by (slice_index_or records q.line None) refl at
   ]
 
 -- ---- the records afterwards
-module _ (d : Doc) (s new : ChipState) (e : OrdersNothing d s new) (t : ℕ) (unit after : UnitState) (c : ChangesUnit s new t unit after) (keeps : KeepsSettled d s new unit after)
-    (count : after.node.delivered ≡ unit.node.delivered + 1) (q : Request) (next : slice_get s.network.ordered unit.node.delivered ≡ Some q) (was : NodeHasValues d s unit.node)
+module _ (d : Doc) (s new : ChipState) (e : OrdersNothing d s new) (t : ℕ) (unit after : UnitState) (c : ChangesUnit s new t unit after)
+    (keeps : KeepsSettled d s new unit after)
+    (count : after.node.delivered ≡ unit.node.delivered + 1) (q : Request) (next : slice_get s.network.ordered unit.node.delivered ≡ Some q)
+    (was : NodeHasValues d s unit.node)
     (records : after.node.records ≡ (answered q unit.node.records).records) where
   abbrev n : ℕ
   n = unit.node.delivered
@@ -128,12 +133,14 @@ module _ (d : Doc) (s new : ChipState) (e : OrdersNothing d s new) (t : ℕ) (un
   next_same line not_back =
       ap (λ (rs : List Request). next_from after.node.delivered (places_written_back line rs)) e.places.order
       ∙ ap (λ (k : ℕ). next_from k (places_written_back line ordered)) count
-      ∙ next_unique (writes_back line ordered) (length ordered) (n + 1) (next_from (n + 1) (places_written_back line ordered)) (next_from n (places_written_back line ordered))
+      ∙ next_unique (writes_back line ordered) (length ordered) (n + 1) (next_from (n + 1) (places_written_back line ordered))
+      (next_from n (places_written_back line ordered))
       (next_after line (n + 1) ordered)
       (next_more_no (writes_back line ordered) (length ordered) n (next_from n (places_written_back line ordered)) not_back (next_after line n ordered))
 
   -- memory's words, where the memory owns the line afterwards
-  memory_words : (line : ℕ) (words : List ℕ) → owner line (take (n + 1) ordered) ≡ Memory → HasValue d s line n words → HasValue d new line after.node.delivered words
+  memory_words : (line : ℕ) (words : List ℕ) → owner line (take (n + 1) ordered) ≡ Memory → HasValue d s line n words
+      → HasValue d new line after.node.delivered words
   memory_words line words owned has = passes d s new e t unit after c keeps count line words (none_may_write line (take (n + 1) ordered) owned) has
 
   -- the request that makes the memory the owner writes the line back
@@ -160,10 +167,12 @@ module _ (d : Doc) (s new : ChipState) (e : OrdersNothing d s new) (t : ℕ) (un
   words_as line old r Memory same has = subst (HasValue d s line n) (sym same) has
   words_as line old r (Tile u) same has = λ place next_is. subst (HasValue d s line place) (sym same) (has place next_is)
 
-  pub records_next : (line : ℕ) (r : LineRecord) → slice_index_or after.node.records line None ≡ Some r → r.fresh ≡ true → RecordHasValue d new after.node line r r.owner
+  pub records_next : (line : ℕ) (r : LineRecord) → slice_index_or after.node.records line None ≡ Some r → r.fresh ≡ true
+      → RecordHasValue d new after.node line r r.owner
   records_next line r at fresh =
       let from = was_record q unit.node.records line r (ap (λ (rs : Records). slice_index_or rs line None) (sym records) ∙ at) in
-      by_owners line r from.old.owner r.owner (sym (owned_before line from.old from.there)) (sym (owned_now line r at)) (λ memory. from.left.memory memory fresh)
+      by_owners line r from.old.owner r.owner (sym (owned_before line from.old from.there)) (sym (owned_now line r at))
+      (λ memory. from.left.memory memory fresh)
       (words_as line from.old r from.old.owner from.left.words (was.records line from.old from.there (from.left.fresh fresh)))
 
 -- ---- the words that the controller sends
@@ -178,10 +187,21 @@ record FromRecord (q : Request) (r : LineRecord) (msg : Msg) : Type 0 where
   pub asks : is_get q.kind ≡ true
   pub is : msg ≡ data_to q.source q.line r.words
 
-memory_sends : (q : Request) (r : LineRecord) (kind : Kind) (i : ℕ) (msg : Msg) → q.kind ≡ kind → r.owner ≡ Memory → r.fresh ≡ true → slice_get (from_memory q r kind).sends i ≡ Some msg
+memory_sends : (q : Request) (r : LineRecord) (kind : Kind) (i : ℕ) (msg : Msg) → q.kind ≡ kind → r.owner ≡ Memory → r.fresh ≡ true
+    → slice_get (from_memory q r kind).sends i ≡ Some msg
     → FromRecord q r msg
-memory_sends q r GetS i msg kind memory fresh at = record { memory = memory; fresh = fresh; asks = ap is_get kind; is = sym (one_is (data_to q.source q.line r.words) i msg at) }
-memory_sends q r GetM i msg kind memory fresh at = record { memory = memory; fresh = fresh; asks = ap is_get kind; is = sym (one_is (data_to q.source q.line r.words) i msg at) }
+memory_sends q r GetS i msg kind memory fresh at = record {
+  memory = memory;
+  fresh = fresh;
+  asks = ap is_get kind;
+  is = sym (one_is (data_to q.source q.line r.words) i msg at);
+}
+memory_sends q r GetM i msg kind memory fresh at = record {
+  memory = memory;
+  fresh = fresh;
+  asks = ap is_get kind;
+  is = sym (one_is (data_to q.source q.line r.words) i msg at);
+}
 memory_sends q r PutM i msg kind memory fresh at = none_some msg at
 
 waiting_sends : {P : Type 0} (q : Request) (r : LineRecord) (kind : Kind) (i : ℕ) (msg : Msg) → slice_get (awaiting_write_back q r kind).sends i ≡ Some msg → P
@@ -189,12 +209,14 @@ waiting_sends q r GetS i msg at = none_some msg at
 waiting_sends q r GetM i msg at = none_some msg at
 waiting_sends q r PutM i msg at = none_some msg at
 
-tile_sends : {P : Type 0} (q : Request) (r : LineRecord) (tile : ℕ) (kind : Kind) (i : ℕ) (msg : Msg) → slice_get (owned_by_tile q r tile kind).sends i ≡ Some msg → P
+tile_sends : {P : Type 0} (q : Request) (r : LineRecord) (tile : ℕ) (kind : Kind) (i : ℕ) (msg : Msg)
+    → slice_get (owned_by_tile q r tile kind).sends i ≡ Some msg → P
 tile_sends q r tile GetS i msg at = none_some msg at
 tile_sends q r tile GetM i msg at = none_some msg at
 tile_sends q r tile PutM i msg at = none_some msg at
 
-record_sends : (q : Request) (r : LineRecord) (o : Owner) (i : ℕ) (msg : Msg) → r.owner ≡ o → slice_get (answered_by q r o).sends i ≡ Some msg → FromRecord q r msg
+record_sends : (q : Request) (r : LineRecord) (o : Owner) (i : ℕ) (msg : Msg) → r.owner ≡ o → slice_get (answered_by q r o).sends i ≡ Some msg
+    → FromRecord q r msg
 record_sends q r Memory i msg owned at = by r.fresh refl at where
   by : (b : Bool) → r.fresh ≡ b → slice_get (cond b (from_memory q r q.kind) (awaiting_write_back q r q.kind)).sends i ≡ Some msg → FromRecord q r msg
   by true fresh e = memory_sends q r q.kind i msg refl owned fresh e
@@ -210,7 +232,8 @@ record SentFrom (q : Request) (records : Records) (msg : Msg) : Type 0 where
 sent_from : (q : Request) (records : Records) (i : ℕ) (msg : Msg) → slice_get (answered q records).sends i ≡ Some msg → SentFrom q records msg
 unfolding answered
 sent_from q records i msg at = by (slice_index_or records q.line None) refl at where
-  by : (entry : Option LineRecord) → slice_index_or records q.line None ≡ entry → slice_get (answered_at q records entry).sends i ≡ Some msg → SentFrom q records msg
+  by : (entry : Option LineRecord) → slice_index_or records q.line None ≡ entry → slice_get (answered_at q records entry).sends i ≡ Some msg
+      → SentFrom q records msg
   by None there e = none_some msg e
   by (Some r) there e = record { r = r; there = there; sends = record_sends q r r.owner i msg refl e }
 
@@ -226,7 +249,8 @@ supplied_open d s t unit q holds at next asks supplies other there =
     (to_come_by (chip_of d) s q.source unit.node.delivered q next (get_of q.source q asks refl) (omega (arith, count)))
 
 -- words that have the value at the place of the get that a tile delivers as its supplier answer it
-pub answers_delivered : (d : Doc) (s : ChipState) (t : ℕ) (unit : UnitState) (q : Request) (words : List ℕ) → ProtocolHolds d s → slice_get s.units t ≡ Some unit
+pub answers_delivered : (d : Doc) (s : ChipState) (t : ℕ) (unit : UnitState) (q : Request) (words : List ℕ) → ProtocolHolds d s
+    → slice_get s.units t ≡ Some unit
     → slice_get s.network.ordered unit.node.delivered ≡ Some q → is_get q.kind ≡ true
     → supplier (chip_of d) q.line (owner q.line (take unit.node.delivered s.network.ordered)) ≡ t
     → HasValue d s q.line unit.node.delivered words → MessageHasValue d s (data_to q.source q.line words) Data
@@ -240,7 +264,8 @@ answers_delivered d s t unit q words holds at next asks supplies has other there
 }
 
 -- a tile that keeps the record of a line is its home
-pub home_is : (d : Doc) (s : ChipState) (t : ℕ) (unit : UnitState) (line : ℕ) (r : LineRecord) → ProtocolHolds d s → slice_get s.units t ≡ Some unit → line < (chip_of d).lines
+pub home_is : (d : Doc) (s : ChipState) (t : ℕ) (unit : UnitState) (line : ℕ) (r : LineRecord) → ProtocolHolds d s → slice_get s.units t ≡ Some unit
+    → line < (chip_of d).lines
     → slice_index_or unit.node.records line None ≡ Some r → home (chip_of d) line ≡ t
 home_is d s t unit line r holds at below there =
     let own = (unit_holds d s t unit holds at).holds.node in
@@ -249,12 +274,14 @@ home_is d s t unit line r holds at below there =
     sym (ap (λ (chip : Chip). home chip line) own.chip) ∙ eqb-true (home unit.node.chip line) unit.node.tile here ∙ own.agrees.tile
 
 -- what the controller sends has its value
-pub home_sends : (d : Doc) (s : ChipState) (t : ℕ) (unit : UnitState) (q : Request) (i : ℕ) (msg : Msg) → DocLaws d → ProtocolHolds d s → slice_get s.units t ≡ Some unit
+pub home_sends : (d : Doc) (s : ChipState) (t : ℕ) (unit : UnitState) (q : Request) (i : ℕ) (msg : Msg) → DocLaws d → ProtocolHolds d s
+    → slice_get s.units t ≡ Some unit
     → slice_get s.network.ordered unit.node.delivered ≡ Some q → NodeHasValues d s unit.node → slice_get (answered q unit.node.records).sends i ≡ Some msg
     → MessageHasValue d s msg msg.kind
 home_sends d s t unit q i msg fits holds at next has sent =
     let from = sent_from q unit.node.records i msg sent in
-    let here : home (chip_of d) q.line ≡ t = home_is d s t unit q.line from.r holds at (request_inside d s unit.node.delivered q fits holds next).line from.there in
+    let here : home (chip_of d) q.line ≡ t =
+    home_is d s t unit q.line from.r holds at (request_inside d s unit.node.delivered q fits holds next).line from.there in
     let owned : owner q.line (take unit.node.delivered s.network.ordered) ≡ Memory =
     sym ((unit_holds d s t unit holds at).holds.serves.owns.records q.line from.r from.there) ∙ from.sends.memory in
     let value : HasValue d s q.line unit.node.delivered from.r.words =

@@ -1,16 +1,15 @@
 -- Words come for a demand that is ordered: it completes, and all values stay.
-use Rattle.std.proofs.Common.{◌≡◌, ◌≢◌, ℕ, ◌+◌, ◌<◌, ◌≤◌, Bool, true, false, cond, refl, sym, ◌∙◌, ap, subst, arith, inl, inr, ◌⊎◌, Option, Some, None, List, [], ◌∷◌, ◌++◌}
-use Rattle.std.specs.Prelude.{◌==◌, ◌&&◌, filter, is_some, slice_get, slice_index_or}
+use Rattle.std.proofs.Common.{◌≡◌, ◌≢◌, ℕ, ◌+◌, Bool, false, cond, refl, sym, ◌∙◌, ap, subst, arith, inl, inr, Option, Some, None, List, [], ◌∷◌, ◌++◌}
+use Rattle.std.specs.Prelude.{◌&&◌, filter, is_some, slice_get, slice_index_or}
 use Rattle.std.specs.List.{list_any}
 use Rattle.std.proofs.lemmas.Bool.{ne_eqb}
 use Rattle.std.proofs.lemmas.Option.{same_Some}
 use Rattle.mesh_gen.specs.declared.request.Request.{Request}
 use Rattle.mesh_gen.specs.declared.msg.Msg.{Msg}
 use Rattle.vc_bank.specs.Places.{at as stands_at}
-use Rattle.report_text.specs.declared.access.Access.{Access}
 use Rattle.doc_text.specs.Doc.{Doc}
 use Rattle.chip_model.specs.Cache.{Held, lookup}
-use Rattle.chip_model.specs.Misses.{Demand, WriteBack, is_getm}
+use Rattle.chip_model.specs.Misses.{Demand, is_getm}
 use Rattle.chip_model.specs.Snoop.{Outcome, completed, done_by, after_data, data_for, data_at}
 use Rattle.chip_model.specs.Node.{Node, words_arrived}
 use Rattle.chip_model.specs.Units.{UnitState}
@@ -39,7 +38,8 @@ pub other_write : (line : ℕ) (demand : Demand) → line ≢ demand.line → is
 other_write line demand away =
     ap (λ (b : Bool). b && is_getm demand.kind && is_some demand.ordered) (ne_eqb demand.line line (λ same. away (sym same)))
 
-module _ (d : Doc) (s new : ChipState) (e : OrdersNothing d s new) (values : ValuesHold d s) (t : ℕ) (unit after : UnitState) (c : ChangesUnit s new t unit after) (rising : AreRising s.accesses)
+module _ (d : Doc) (s new : ChipState) (e : OrdersNothing d s new) (values : ValuesHold d s) (t : ℕ) (unit after : UnitState)
+    (c : ChangesUnit s new t unit after) (rising : AreRising s.accesses)
     (line : ℕ) (words : List ℕ) (demand : Demand) (stands : unit.node.side.misses.demand ≡ Some demand) (place : ℕ) (ordered : demand.ordered ≡ Some place)
     (answers : AnswersGet d s unit.node line words) (node : after.node ≡ (words_arrived unit.node words).0)
     (number : ℕ) (accesses : new.accesses ≡ s.accesses ++ numbered unit (done_by demand.pending (place + 1) words) number ∷ []) where
@@ -75,7 +75,8 @@ module _ (d : Doc) (s new : ChipState) (e : OrdersNothing d s new) (values : Val
   has : HasValue d s demand.line place words
   has =
       let same_place : answers.place ≡ place = same_Some answers.place place (sym answers.get ∙ waits) in
-      let same : answers.request ≡ get.request = same_Some answers.request get.request (sym answers.at ∙ (ap (slice_get s.network.ordered) same_place ∙ get.at)) in
+      let same : answers.request ≡ get.request =
+      same_Some answers.request get.request (sym answers.at ∙ (ap (slice_get s.network.ordered) same_place ∙ get.at)) in
       let same_line : line ≡ demand.line = sym answers.line_is ∙ ap (λ (q : Request). q.line) same ∙ get.line in
       subst (λ (l : ℕ). HasValue d s l place words) same_line (subst (λ (k : ℕ). HasValue d s line k words) same_place answers.value)
 
@@ -125,7 +126,8 @@ module _ (d : Doc) (s new : ChipState) (e : OrdersNothing d s new) (values : Val
   unfolding completion
   completes = record { is = completion; same = refl }
 
-  other_copy : (m : ℕ) (held : Held) → m ≢ demand.line → lookup unit.node.chip unit.node.side.cache m ≡ Some held → lookup after.node.chip after.node.side.cache m ≡ Some held
+  other_copy : (m : ℕ) (held : Held) → m ≢ demand.line → lookup unit.node.chip unit.node.side.cache m ≡ Some held
+      → lookup after.node.chip after.node.side.cache m ≡ Some held
       → CopyHasValue d new after.node m held held.state
   unfolding completion
   other_copy m held away stood there =
@@ -145,7 +147,8 @@ module _ (d : Doc) (s new : ChipState) (e : OrdersNothing d s new) (values : Val
       subst (λ (k : ℕ). HasValue d new back.line k back.words) (sym count)
       (value_on d s new e t unit after c (completion_keeps d s new e t unit after c completion rising) back.line unit.node.delivered back.words
       (was.back back (back_stood d s new e t unit after c completion rising back there) live)))
-      (λ i msg there. elim (of_append unit.node.out (completed unit.node.chip demand place words unit.node.side).sends i msg (ap (λ (x : Node). slice_get x.out i) (sym form) ∙ there)) [
+      (λ i msg there. elim (of_append unit.node.out (completed unit.node.chip demand place words unit.node.side).sends i msg
+      (ap (λ (x : Node). slice_get x.out i) (sym form) ∙ there)) [
         | inl queued ↦ inl (was.out i msg queued)
         | inr sent ↦ inr sent
       ])
@@ -153,17 +156,20 @@ module _ (d : Doc) (s new : ChipState) (e : OrdersNothing d s new) (values : Val
       record_on d s new e t unit after c (completion_keeps d s new e t unit after c completion rising) unit.node after.node m r r.owner count
       (was.records m r (ap (λ (x : Node). slice_index_or x.records m None) (sym form) ∙ there) fresh))
 
-  arrived_from : ((router port slot : ℕ) (msg : Msg) → stands_at new.replies router port slot ≡ Some msg → stands_at s.replies router port slot ≡ Some msg) → ValuesHold d new
+  arrived_from : ((router port slot : ℕ) (msg : Msg) → stands_at new.replies router port slot ≡ Some msg → stands_at s.replies router port slot ≡ Some msg)
+      → ValuesHold d new
   arrived_from left =
       values_on d s new e t unit after c (completion_keeps d s new e t unit after c completion rising) values arrived_node
       (λ router port slot msg there. values.channels router port slot msg (left router port slot msg there))
 
 -- words that come for an ordered demand keep all values
-pub arrived_values : (d : Doc) (s new : ChipState) → OrdersNothing d s new → ValuesHold d s → AreRising s.accesses → (t : ℕ) (unit after : UnitState) → ChangesUnit s new t unit after
+pub arrived_values : (d : Doc) (s new : ChipState) → OrdersNothing d s new → ValuesHold d s → AreRising s.accesses → (t : ℕ) (unit after : UnitState)
+    → ChangesUnit s new t unit after
     → (line : ℕ) (words : List ℕ) → AnswersGet d s unit.node line words
     → (demand : Demand) (place : ℕ) → unit.node.side.misses.demand ≡ Some demand → demand.ordered ≡ Some place
     → after.node ≡ (words_arrived unit.node words).0
     → (number : ℕ) → new.accesses ≡ s.accesses ++ numbered unit (done_by demand.pending (place + 1) words) number ∷ []
-    → ((router port slot : ℕ) (msg : Msg) → stands_at new.replies router port slot ≡ Some msg → stands_at s.replies router port slot ≡ Some msg) → ValuesHold d new
+    → ((router port slot : ℕ) (msg : Msg) → stands_at new.replies router port slot ≡ Some msg → stands_at s.replies router port slot ≡ Some msg)
+    → ValuesHold d new
 arrived_values d s new e values rising t unit after c line words answers demand place stands ordered node number accesses left =
     arrived_from d s new e values t unit after c rising line words demand stands place ordered answers node number accesses left

@@ -1,8 +1,8 @@
 -- A demand completes: the request for which it stands, the words that came for it, and the access that its tile performs with them.
-use Rattle.std.proofs.Common.{◌≡◌, ℕ, ◌+◌, ◌<◌, ◌≤◌, Bool, true, false, refl, sym, ◌∙◌, ap, subst, arith, inl, inr, ◌⊎◌, Some, List, [], ◌∷◌, ◌++◌, set}
+use Rattle.std.proofs.Common.{◌≡◌, ℕ, ◌+◌, ◌<◌, ◌≤◌, Bool, true, false, refl, sym, ◌∙◌, ap, arith, Some, List, [], ◌∷◌, ◌++◌, set}
 use Rattle.std.specs.Prelude.{◌==◌, ◌&&◌, ◌||◌, nat_lt, nat_le, filter, slice_get}
 use Rattle.std.specs.List.{list_any, AllByRecursion}
-use Rattle.std.proofs.lemmas.Bool.{and_parts, and_from, eqb-true, eq-eqb, leb-true, le-leb, lt-ltb, both_ways, false_from_ne_true}
+use Rattle.std.proofs.lemmas.Bool.{and_parts, eqb-true, leb-true, lt-ltb, false_from_ne_true}
 use Rattle.mesh_gen.specs.declared.kind.Kind.TheVariants.{GetS, GetM}
 use Rattle.mesh_gen.specs.declared.request.Request.{Request}
 use Rattle.report_text.specs.declared.access.Access.{Access}
@@ -44,7 +44,8 @@ pub record Completion (d : Doc) (s new : ChipState) (t : ℕ) (unit after : Unit
   pub latest : latest_time unit.node ≤ place
   pub late : demand.kind ≡ GetM → (p : ℕ) → IsSettled s.network.ordered unit.node demand.line p → p ≤ place
   pub reached : place < after.node.delivered
-  pub once : demand.kind ≡ GetS → demand.once ≡ list_any (λ (q : Request). is_getm q.kind) (gets_of_others t demand.line (between place after.node.delivered s.network.ordered))
+  pub once : demand.kind ≡ GetS
+      → demand.once ≡ list_any (λ (q : Request). is_getm q.kind) (gets_of_others t demand.line (between place after.node.delivered s.network.ordered))
   pub list : demand.kind ≡ GetM → demand.list ≡ waiting_for (up_to_getm (gets_of_others t demand.line (between place after.node.delivered s.network.ordered)))
   pub alone : filter (is_get_of t) (between place after.node.delivered s.network.ordered) ≡ []
   pub words : List ℕ
@@ -76,7 +77,9 @@ or_left false b is = cc
 
 -- an earlier access comes before
 pub before_time : (b a : Access) → b.time < a.time → is_before b a ≡ true
-before_time b a less = or_left (nat_lt b.time a.time) ((b.time == a.time) && (nat_lt b.tile a.tile || ((b.tile == a.tile) && nat_lt b.number a.number))) (lt-ltb b.time a.time less)
+before_time b a less =
+    or_left (nat_lt b.time a.time) ((b.time == a.time) && (nat_lt b.tile a.tile || ((b.tile == a.tile) && nat_lt b.number a.number)))
+    (lt-ltb b.time a.time less)
 
 module _ (d : Doc) (s new : ChipState) (t : ℕ) (unit after : UnitState) (holds : ProtocolHolds d s) (is : Completion d s new t unit after) where
   pub fits : DemandFits unit.node.chip unit.node.side.cache is.demand
@@ -103,7 +106,8 @@ module _ (d : Doc) (s new : ChipState) (t : ℕ) (unit after : UnitState) (holds
       let early = own_before i b at (same ∙ is.tile) in before_time b is.access (omega (arith, early, is.time)))
 
   -- the value of a line stays where the access does not count
-  pub value_elsewhere : (line p : ℕ) → (is_write is.access ≡ true → line ≡ is.demand.line → p ≤ is.place) → line_value d new.accesses line p ≡ line_value d s.accesses line p
+  pub value_elsewhere : (line p : ℕ) → (is_write is.access ≡ true → line ≡ is.demand.line → p ≤ is.place)
+      → line_value d new.accesses line p ≡ line_value d s.accesses line p
   value_elsewhere line p apart =
       ap (λ (xs : List Access). line_value d xs line p) is.accesses
       ∙ value_kept d s.accesses is.access line p follows (false_from_ne_true (writes_by line p is.access) (λ counts.

@@ -1,5 +1,5 @@
 -- An event that orders nothing keeps the places of open gets, and the protocol holds before and behind it.
-use Rattle.std.proofs.Common.{◌≡◌, ℕ, ◌≤◌, Some, List, sym, ◌∙◌, ap, subst, arith, inl, inr}
+use Rattle.std.proofs.Common.{◌≡◌, ℕ, Some, List, sym, ◌∙◌, ap, subst, arith, inl, inr}
 use Rattle.std.specs.Prelude.{slice_get}
 use Rattle.std.proofs.lemmas.Option.{same_Some}
 use Rattle.mesh_gen.specs.declared.request.Request.{Request}
@@ -38,7 +38,8 @@ kept_places : (d : Doc) (s new : ChipState) → new.network.ordered ≡ s.networ
 kept_places d s new order (inl keeps) = keeps
 kept_places d s new order (inr ticks) = same_places s new order ticks.units
 
-pub orders_nothing : MessageLaws → (b : Behaviour) (laws : KeepsLaws b) (d : Doc) (s new : ChipState) (event : Event) → DocLaws d → StateHolds b laws d s → StateHolds b laws d new
+pub orders_nothing : MessageLaws → (b : Behaviour) (laws : KeepsLaws b) (d : Doc) (s new : ChipState) (event : Event) → DocLaws d → StateHolds b laws d s
+    → StateHolds b laws d new
     → EventDoes b (chip_of d) s new event → new.network.ordered ≡ s.network.ordered → OrdersNothing d s new
 orders_nothing messages b laws d s new event fits holds left does order = record {
   before = holds.protocol;

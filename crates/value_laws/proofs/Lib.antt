@@ -44,6 +44,7 @@ pub mod ReadsKept
 pub mod OpenedValues
 pub mod HitAccesses
 pub mod HitValues
+pub mod DeliveredPrefixes
 pub mod CleanSteps
 pub mod CoreHits
 pub mod CompletedAccesses

@@ -46,13 +46,15 @@ record MissLeaves (node after : Node) : Type 0 where
   pub back : (back : WriteBack) → after.side.misses.back ≡ Some back → (node.side.misses.back ≡ Some back) ⊎ PutBack node back
 
 -- ---- what it leaves
-kept_copy : (chip : Chip) (cache : Cache) (line m : ℕ) (held : Held) → lookup chip (without_line chip line cache) m ≡ Some held → lookup chip cache m ≡ Some held
+kept_copy : (chip : Chip) (cache : Cache) (line m : ℕ) (held : Held) → lookup chip (without_line chip line cache) m ≡ Some held
+    → lookup chip cache m ≡ Some held
 kept_copy chip cache line m held at = by (m == line) (sym (lookup-without_line chip cache line m) ∙ at) where
   by : (b : Bool) → cond {A = Option Held} b None (lookup chip cache m) ≡ Some held → lookup chip cache m ≡ Some held
   by true is = none_some held is
   by false is = is
 
-started : (node : Node) (cache : Cache) (access : Pending) → ((line : ℕ) (held : Held) → lookup node.chip cache line ≡ Some held → lookup node.chip node.side.cache line ≡ Some held)
+started : (node : Node) (cache : Cache) (access : Pending)
+    → ((line : ℕ) (held : Held) → lookup node.chip cache line ≡ Some held → lookup node.chip node.side.cache line ≡ Some held)
     → MissLeaves node (with_side (with_demand (Some (started_by access)) (with_cache cache node.side)) node)
 started node cache access copies = record {
   copies = copies;
@@ -64,7 +66,8 @@ started node cache access copies = record {
 }
 
 put_back : (node : Node) (held : Held) → node.side.misses.demand ≡ None → lookup node.chip node.side.cache held.line ≡ Some held → is_shared held.state ≡ false
-    → MissLeaves node (with_side (with_back (Some (new_back held.line held.words)) (with_cache (without_line node.chip held.line node.side.cache) node.side)) node)
+    → MissLeaves node (with_side (with_back (Some (new_back held.line held.words))
+    (with_cache (without_line node.chip held.line node.side.cache) node.side)) node)
 put_back node held free there owned = record {
   copies = λ line copy at. kept_copy node.chip node.side.cache held.line line copy at;
   demand = λ demand is. none_some demand (sym free ∙ is);
@@ -74,7 +77,8 @@ put_back node held free there owned = record {
 }
 
 -- of a line that is not in the cache
-absent_leaves : (access : Pending) (node : Node) (step : Performed) → IsCache node.chip node.side.cache → lookup node.chip node.side.cache (line_of access.address) ≡ None
+absent_leaves : (access : Pending) (node : Node) (step : Performed) → IsCache node.chip node.side.cache
+    → lookup node.chip node.side.cache (line_of access.address) ≡ None
     → node_after_access access node ≡ Some step → MissLeaves node step.0
 absent_leaves access node step cache absent is =
     let free = accessed_free access node step is in
@@ -88,29 +92,36 @@ absent_leaves access node step cache absent is =
       missed = λ a at apart none room. started node node.side.cache a (λ line held there. there);
       upgraded = λ a at apart changes held there shared. none_some held (sym absent ∙ there);
       made_room = λ a at apart none left drops.
-          started node left a (λ line held there. kept_copy node.chip node.side.cache drops.was.line line held (ap (λ (x : Cache). lookup node.chip x line) (sym drops.dropped) ∙ there));
+          started node left a (λ line held there. kept_copy node.chip node.side.cache drops.was.line line held
+          (ap (λ (x : Cache). lookup node.chip x line) (sym drops.dropped) ∙ there));
       put_back = λ held puts queue alone. put_back node held free puts.there puts.owned;
     }) is
 
 -- of a line that is there, to write it
-upgrade_leaves : (access : Pending) (node : Node) (step : Performed) → unless_written_back access node (Some (demand_started access node.side node)) ≡ Some step → MissLeaves node step.0
+upgrade_leaves : (access : Pending) (node : Node) (step : Performed)
+    → unless_written_back access node (Some (demand_started access node.side node)) ≡ Some step → MissLeaves node step.0
 upgrade_leaves access node step is =
     when_some _ (Some (demand_started access node.side node)) step is (λ apart done.
-    subst (λ (p : Performed). MissLeaves node p.0) (same_Some (demand_started access node.side node) step done) (started node node.side.cache access (λ line held there. there)))
+    subst (λ (p : Performed). MissLeaves node p.0) (same_Some (demand_started access node.side node) step done)
+    (started node node.side.cache access (λ line held there. there)))
 
-store_leaves : (access : Pending) (held : Held) (node : Node) (state : State) (step : Performed) → step.1 ≡ None → store_to access held node state ≡ Some step → MissLeaves node step.0
+store_leaves : (access : Pending) (held : Held) (node : Node) (state : State) (step : Performed) → step.1 ≡ None
+    → store_to access held node state ≡ Some step → MissLeaves node step.0
 store_leaves access held node M step nothing is =
     let performs : ◌≡◌ {A = Option Done} (Some _) None = ap (λ (p : Performed). p.1) (same_Some _ step is) ∙ nothing in cc
 store_leaves access held node O step nothing is = upgrade_leaves access node step is
 store_leaves access held node S step nothing is = upgrade_leaves access node step is
 
-there_leaves : (access : Pending) (node : Node) (held : Held) (step : Performed) → step.1 ≡ None → accessed_with access node (Some held) ≡ Some step → MissLeaves node step.0
+there_leaves : (access : Pending) (node : Node) (held : Held) (step : Performed) → step.1 ≡ None → accessed_with access node (Some held) ≡ Some step
+    → MissLeaves node step.0
 there_leaves access node held step nothing is = by (writes access.kind) is where
-  by : (changes : Bool) → cond {A = Option Performed} changes (store_to access held node held.state) (Some (load_hit access held node)) ≡ Some step → MissLeaves node step.0
+  by : (changes : Bool) → cond {A = Option Performed} changes (store_to access held node held.state) (Some (load_hit access held node)) ≡ Some step
+      → MissLeaves node step.0
   by true e = store_leaves access held node held.state step nothing e
   by false e = let performs : ◌≡◌ {A = Option Done} (Some _) None = ap (λ (p : Performed). p.1) (same_Some (load_hit access held node) step e) ∙ nothing in cc
 
-miss_leaves : (access : Pending) (node : Node) (step : Performed) → IsCache node.chip node.side.cache → step.1 ≡ None → node_after_access access node ≡ Some step → MissLeaves node step.0
+miss_leaves : (access : Pending) (node : Node) (step : Performed) → IsCache node.chip node.side.cache → step.1 ≡ None
+    → node_after_access access node ≡ Some step → MissLeaves node step.0
 unfolding node_after_access
 miss_leaves access node step cache nothing is = by (lookup node.chip node.side.cache (line_of access.address)) refl where
   by : (copy : Option Held) → lookup node.chip node.side.cache (line_of access.address) ≡ copy → MissLeaves node step.0
@@ -123,18 +134,23 @@ miss_leaves access node step cache nothing is = by (lookup node.chip node.side.c
 -- a demand that is not ordered asks for no place
 unordered_write : (line : ℕ) (entry : Option Demand) → ((demand : Demand) → entry ≡ Some demand → demand.ordered ≡ None) → is_ordered_write line entry ≡ false
 unordered_write line None none = refl
-unordered_write line (Some demand) none = ap (λ (o : Option ℕ). (demand.line == line) && is_getm demand.kind && is_some o) (none demand refl) ∙ by ((demand.line == line) && is_getm demand.kind) where
-  by : (b : Bool) → (b && false) ≡ false
-  by true = refl
-  by false = refl
+unordered_write line (Some demand) none =
+    ap (λ (o : Option ℕ). (demand.line == line) && is_getm demand.kind && is_some o) (none demand refl) ∙ by
+    ((demand.line == line) && is_getm demand.kind) where
+      by : (b : Bool) → (b && false) ≡ false
+      by true = refl
+      by false = refl
 
 -- so a copy in S has its value at the count
-pub shared_at_count : (node : Node) (line : ℕ) → ((demand : Demand) → node.side.misses.demand ≡ Some demand → demand.ordered ≡ None) → place_of_shared node line ≡ node.delivered
+pub shared_at_count : (node : Node) (line : ℕ) → ((demand : Demand) → node.side.misses.demand ≡ Some demand → demand.ordered ≡ None)
+    → place_of_shared node line ≡ node.delivered
 shared_at_count node line none =
     ap (λ (b : Bool). cond b (place_of_demand node.side.misses.demand node.delivered) node.delivered) (unordered_write line node.side.misses.demand none)
 
-module _ (d : Doc) (s new : ChipState) (e : OrdersNothing d s new) (values : ValuesHold d s) (t : ℕ) (unit : UnitState) (after : UnitState) (c : ChangesUnit s new t unit after)
-    (accesses : new.accesses ≡ s.accesses) (frame : after.node ≡ with_side after.node.side unit.node) (free : unit.node.side.misses.demand ≡ None) (leaves : MissLeaves unit.node after.node) where
+module _ (d : Doc) (s new : ChipState) (e : OrdersNothing d s new) (values : ValuesHold d s) (t : ℕ) (unit : UnitState) (after : UnitState)
+    (c : ChangesUnit s new t unit after)
+    (accesses : new.accesses ≡ s.accesses) (frame : after.node ≡ with_side after.node.side unit.node) (free : unit.node.side.misses.demand ≡ None)
+    (leaves : MissLeaves unit.node after.node) where
   chip : after.node.chip ≡ unit.node.chip
   chip = ap (λ (n : Node). n.chip) frame
 
@@ -150,9 +166,11 @@ module _ (d : Doc) (s new : ChipState) (e : OrdersNothing d s new) (values : Val
   stood : (line : ℕ) (held : Held) → lookup after.node.chip after.node.side.cache line ≡ Some held → lookup unit.node.chip unit.node.side.cache line ≡ Some held
   stood line held there = leaves.copies line held (ap (λ (x : Chip). lookup x after.node.side.cache line) (sym chip) ∙ there)
 
-  unmodified : (line : ℕ) → is_modified (lookup after.node.chip after.node.side.cache line) ≡ true → is_modified (lookup unit.node.chip unit.node.side.cache line) ≡ true
+  unmodified : (line : ℕ) → is_modified (lookup after.node.chip after.node.side.cache line) ≡ true
+      → is_modified (lookup unit.node.chip unit.node.side.cache line) ≡ true
   unmodified line only = by (lookup after.node.chip after.node.side.cache line) refl only where
-    by : (copy : Option Held) → lookup after.node.chip after.node.side.cache line ≡ copy → is_modified copy ≡ true → is_modified (lookup unit.node.chip unit.node.side.cache line) ≡ true
+    by : (copy : Option Held) → lookup after.node.chip after.node.side.cache line ≡ copy → is_modified copy ≡ true
+        → is_modified (lookup unit.node.chip unit.node.side.cache line) ≡ true
     by None at is = absurd (false≢true is)
     by (Some held) at is = ap is_modified (stood line held at) ∙ is
 
@@ -175,18 +193,22 @@ module _ (d : Doc) (s new : ChipState) (e : OrdersNothing d s new) (values : Val
       ∙ sym (shared_at_count unit.node line (λ demand stands. none_some demand (sym free ∙ stands)))
 
   -- the words of a line that is written back now are those of its copy
-  put_value : (back : WriteBack) (held : Held) (state : State) → after.node.side.misses.back ≡ Some back → is_shared state ≡ false → CopyHasValue d s unit.node back.line held state
+  put_value : (back : WriteBack) (held : Held) (state : State) → after.node.side.misses.back ≡ Some back → is_shared state ≡ false
+      → CopyHasValue d s unit.node back.line held state
       → HasValue d new back.line after.node.delivered held.words
   put_value back held M stands owned has =
       with_itself d s new e t unit after c keeps back.line after.node.delivered held.words (record {
         delivered = λ g q less at same kind source. less;
         demand = λ demand g stands_demand ordered kind same. none_some g (sym (leaves.demand demand stands_demand).0 ∙ ordered);
-        modified = λ only. absurd (false≢true (sym (ap is_modified ((unit_holds d new t after e.behind (now d s new e t unit after c)).holds.node.fits.side.back back stands)) ∙ only));
+        modified = λ only.
+            absurd (false≢true (sym (ap is_modified ((unit_holds d new t after e.behind
+            (now d s new e t unit after c)).holds.node.fits.side.back back stands)) ∙ only));
       }) (own_value back.line held.words has)
   put_value back held O stands owned has = value back.line held.words has
   put_value back held S stands owned has = absurd (false≢true (sym owned))
 
-  back_value : (back : WriteBack) → after.node.side.misses.back ≡ Some back → back.live ≡ true → (unit.node.side.misses.back ≡ Some back) ⊎ PutBack unit.node back
+  back_value : (back : WriteBack) → after.node.side.misses.back ≡ Some back → back.live ≡ true
+      → (unit.node.side.misses.back ≡ Some back) ⊎ PutBack unit.node back
       → HasValue d new back.line after.node.delivered back.words
   back_value back stands live (inl stood) = value back.line back.words (was.back back stood live)
   back_value back stands live (inr puts) =
@@ -196,7 +218,8 @@ module _ (d : Doc) (s new : ChipState) (e : OrdersNothing d s new) (values : Val
   node_values : NodeHasValues d new after.node
   node_values = record {
     copies = λ line held there.
-        itself_copy_on d s new e t unit after c keeps line held held.state count (shared line) (λ only. ap (λ (xs : List Access). line_value d xs line unit.node.delivered) accesses)
+        itself_copy_on d s new e t unit after c keeps line held held.state count (shared line)
+        (λ only. ap (λ (xs : List Access). line_value d xs line unit.node.delivered) accesses)
         (was.copies line held (stood line held there));
     back = λ back stands live. back_value back stands live (leaves.back back stands);
     early = λ demand words stands early. none_some words (sym (leaves.demand demand stands).1 ∙ early);

@@ -29,7 +29,8 @@ use Rattle.value_laws.proofs.SettledSteps.{OrdersNothing, now}
 use Rattle.value_laws.proofs.StepValues.{KeepsSettled, value_on, itself_on, with_itself}
 
 -- a node has performed accesses up to its count at most
-pub latest_within : (node : Node) → ((demand : Demand) (place : ℕ) → node.side.misses.demand ≡ Some demand → demand.ordered ≡ Some place → place < node.delivered)
+pub latest_within : (node : Node)
+    → ((demand : Demand) (place : ℕ) → node.side.misses.demand ≡ Some demand → demand.ordered ≡ Some place → place < node.delivered)
     → latest_time node ≤ node.delivered
 latest_within node before = by node.side.misses.demand refl where
   at : (demand : Demand) (o : Option ℕ) → node.side.misses.demand ≡ Some demand → demand.ordered ≡ o → time_of_place o node.delivered ≤ node.delivered
@@ -77,10 +78,12 @@ middle false false c is = absurd (false≢true is)
 pub back_owned : (chip : Chip) (side : CacheSide) (back : WriteBack) → side.misses.back ≡ Some back → back.live ≡ true → owns chip side back.line ≡ true
 unfolding owns
 back_owned chip side back stands live =
-    let is : is_live_back back.line side.misses.back ≡ true = ap (is_live_back back.line) stands ∙ (ap (λ (b : Bool). b && back.live) (eq-eqb back.line back.line refl) ∙ live) in
+    let is : is_live_back back.line side.misses.back ≡ true =
+    ap (is_live_back back.line) stands ∙ (ap (λ (b : Bool). b && back.live) (eq-eqb back.line back.line refl) ∙ live) in
     middle (is_owned_copy (lookup chip side.cache back.line)) (is_live_back back.line side.misses.back) (is_open_write back.line side.misses.demand) is
 
-module _ (d : Doc) (s new : ChipState) (e : OrdersNothing d s new) (t : ℕ) (unit after : UnitState) (c : ChangesUnit s new t unit after) (keeps : KeepsSettled d s new unit after)
+module _ (d : Doc) (s new : ChipState) (e : OrdersNothing d s new) (t : ℕ) (unit after : UnitState) (c : ChangesUnit s new t unit after)
+    (keeps : KeepsSettled d s new unit after)
     (count : after.node.delivered ≡ unit.node.delivered + 1) where
   abbrev n : ℕ
   n = unit.node.delivered
@@ -101,20 +104,23 @@ module _ (d : Doc) (s new : ChipState) (e : OrdersNothing d s new) (t : ℕ) (un
       (subst (λ (k : ℕ). P (take k new.network.ordered)) count is)
 
   -- where no tile may write after the request
-  pub passes : (line : ℕ) (words : List ℕ) → writer line (take (n + 1) s.network.ordered) ≡ Memory → HasValue d s line n words → HasValue d new line after.node.delivered words
+  pub passes : (line : ℕ) (words : List ℕ) → writer line (take (n + 1) s.network.ordered) ≡ Memory → HasValue d s line n words
+      → HasValue d new line after.node.delivered words
   passes line words none has =
       subst (λ (k : ℕ). HasValue d new line k words) (sym count)
       (value_on d s new e t unit after c keeps line (n + 1) words (value_passes d s line n words e.before none has))
 
   -- where the tile itself may
-  pub own_passes : (line : ℕ) (words : List ℕ) → writer line (take (n + 1) s.network.ordered) ≡ Tile t → line_value d new.accesses line (n + 1) ≡ line_value d s.accesses line (n + 1)
+  pub own_passes : (line : ℕ) (words : List ℕ) → writer line (take (n + 1) s.network.ordered) ≡ Tile t
+      → line_value d new.accesses line (n + 1) ≡ line_value d s.accesses line (n + 1)
       → HasOwnValue d s t line n words → HasOwnValue d new t line after.node.delivered words
   own_passes line words own same has =
       subst (λ (k : ℕ). HasOwnValue d new t line k words) (sym count)
       (itself_on d s new e t unit after c keeps line (n + 1) words same (own_value_passes d s t line n unit words e.before c.at own latest has))
 
   -- ---- a copy that stays
-  shared_next : (line : ℕ) (held : Held) → held.line ≡ line → KeepsShared unit.node after.node line → writer_for_state after.node held S (writer line (take (n + 1) s.network.ordered))
+  shared_next : (line : ℕ) (held : Held) → held.line ≡ line → KeepsShared unit.node after.node line
+      → writer_for_state after.node held S (writer line (take (n + 1) s.network.ordered))
       → HasValue d s line (place_of_shared unit.node line) held.words → HasValue d new line (place_of_shared after.node line) held.words
   shared_next line held of_line shared may has = by (is_ordered_write line after.node.side.misses.demand) refl where
     by : (b : Bool) → is_ordered_write line after.node.side.misses.demand ≡ b → HasValue d new line (place_of_shared after.node line) held.words
@@ -126,7 +132,9 @@ module _ (d : Doc) (s new : ChipState) (e : OrdersNothing d s new) (t : ℕ) (un
           subst (λ (k : ℕ). HasValue d new line k held.words)
           (sym (ap (λ (b : Bool). cond b (place_of_demand after.node.side.misses.demand after.node.delivered) after.node.delivered) free))
           (passes line held.words none (subst (λ (k : ℕ). HasValue d s line k held.words) (shared.free free) has))
-      | inr own ↦ absurd (both_ways (is_ordered_write line after.node.side.misses.demand) free (ap (λ (l : ℕ). is_ordered_write l after.node.side.misses.demand) (sym of_line) ∙ own.1))
+      | inr own ↦
+          absurd (both_ways (is_ordered_write line after.node.side.misses.demand) free
+          (ap (λ (l : ℕ). is_ordered_write l after.node.side.misses.demand) (sym of_line) ∙ own.1))
     ]
 
   copy_by : (line : ℕ) (held : Held) (state : State) → held.line ≡ line → KeepsShared unit.node after.node line

@@ -1,7 +1,7 @@
 -- The events of a tile's node: a core event that performs no access, the delivery of a request, and a message that comes. Each
 -- keeps all values.
-use Rattle.std.proofs.Common.{◌≡◌, ◌≢◌, ℕ, ◌+◌, ◌<◌, ◌≤◌, Bool, true, false, cond, refl, sym, ◌∙◌, ap, subst, arith, inl, inr, ◌⊎◌, Option, Some, None, List, [], ◌∷◌, ◌++◌}
-use Rattle.std.specs.Prelude.{◌==◌, ◌&&◌, slice_get}
+use Rattle.std.proofs.Common.{◌≡◌, ◌≢◌, ℕ, ◌+◌, Bool, true, cond, refl, sym, ◌∙◌, ap, subst, inl, inr, Option, Some, None, List, [], ◌∷◌, ◌++◌}
+use Rattle.std.specs.Prelude.{slice_get}
 use Rattle.std.proofs.lemmas.Bool.{cond_both, cases_eq, eq-eqb, ne_eqb}
 use Rattle.mesh_gen.specs.declared.kind.Kind.{Kind}
 use Rattle.mesh_gen.specs.declared.kind.Kind.TheVariants.{GetS, GetM, PutM}
@@ -19,13 +19,13 @@ use Rattle.chip_model.specs.Chip.{Chip, chip_of}
 use Rattle.chip_model.specs.Misses.{Demand, is_getm}
 use Rattle.chip_model.specs.Snoop.{CacheSide, Outcome, completed, completed_load, completed_store, done_by, words_here, ordered_with, own_get, own_put, own_request, holding, snooped_with, after_snoop}
 use Rattle.chip_model.specs.Snoop.{data_for, data_at, after_data}
-use Rattle.chip_model.specs.Node.{Node, Performed, node_after_request, node_after_message, arrived_as, words_arrived, back_came}
+use Rattle.chip_model.specs.Node.{Node, Performed, node_after_request, node_after_message, arrived_as, words_arrived}
 use Rattle.chip_model.specs.Units.{UnitState, Behaviour, Acted}
 use Rattle.chip_model.specs.ChipState.{ChipState}
 use Rattle.chip_model.specs.Events.{with_access}
 use Rattle.chip_model.specs.BehaviourLaws.{KeepsLaws, Answers, numbered, Works, GoesOn}
 use Rattle.chip_model.specs.Bookkeeping.{is_get}
-use Rattle.chip_model.specs.Values.{AnswersGet, ComesFromWriteBack, MessageHasValue, ValuesHold}
+use Rattle.chip_model.specs.Values.{AnswersGet, MessageHasValue, ValuesHold}
 use Rattle.snoop_core.specs.Requests.{MeetsDemand, MeetsOwn, OwnRequestFits}
 use Rattle.snoop_core.proofs.OwnSteps.{met_done}
 use Rattle.reply_net.proofs.Accounts.{IsReceived, received_is}
@@ -67,24 +67,30 @@ some_answer old new (Some done) answer one is answers =
 pub none_noted : (s new : ChipState) (answer : Option Access) → new.accesses ≡ with_access answer s.accesses → answer ≡ None → new.accesses ≡ s.accesses
 none_noted s new answer accesses none = accesses ∙ ap (λ (o : Option Access). with_access o s.accesses) none
 
-pub one_noted : (s new : ChipState) (answer : Option Access) (a : Access) → new.accesses ≡ with_access answer s.accesses → answer ≡ Some a → new.accesses ≡ s.accesses ++ a ∷ []
+pub one_noted : (s new : ChipState) (answer : Option Access) (a : Access) → new.accesses ≡ with_access answer s.accesses → answer ≡ Some a
+    → new.accesses ≡ s.accesses ++ a ∷ []
 one_noted s new answer a accesses some = accesses ∙ ap (λ (o : Option Access). with_access o s.accesses) some
 
 -- ---- a core event without an access
 module _ (d : Doc) (s new : ChipState) (e : OrdersNothing d s new) (values : ValuesHold d s) (t : ℕ) where
   stood : new.replies ≡ s.replies → (router port slot : ℕ) (msg : Msg) → stands_at new.replies router port slot ≡ Some msg → MessageHasValue d s msg msg.kind
-  stood replies router port slot msg there = values.channels router port slot msg (ap (λ (net : Network Msg). stands_at net router port slot) (sym replies) ∙ there)
+  stood replies router port slot msg there =
+      values.channels router port slot msg (ap (λ (net : Network Msg). stands_at net router port slot) (sym replies) ∙ there)
 
-  quiet_works : (unit : UnitState) (acted : Acted) → ChangesUnit s new t unit acted.0 → new.accesses ≡ s.accesses → new.replies ≡ s.replies → acted.1 ≡ None → Works unit acted → ValuesHold d new
-  quiet_works unit acted c accesses replies none (inl alone) = node_kept_values d s new e values t unit acted.0 c alone.node (same_values d s new accesses) (stood replies)
+  quiet_works : (unit : UnitState) (acted : Acted) → ChangesUnit s new t unit acted.0 → new.accesses ≡ s.accesses → new.replies ≡ s.replies → acted.1 ≡ None
+      → Works unit acted → ValuesHold d new
+  quiet_works unit acted c accesses replies none (inl alone) =
+      node_kept_values d s new e values t unit acted.0 c alone.node (same_values d s new accesses) (stood replies)
   quiet_works unit acted c accesses replies none (inr tries) =
-      miss_values d s new e values t unit acted.0 c tries.access tries.left tries.tried (nothing tries.left.1 refl tries.goes_on.answers) tries.goes_on.node accesses replies
+      miss_values d s new e values t unit acted.0 c tries.access tries.left tries.tried
+      (nothing tries.left.1 refl tries.goes_on.answers) tries.goes_on.node accesses replies
     where
       nothing : (done : Option Done) → tries.left.1 ≡ done → Answers unit acted.0 done acted.1 → tries.left.1 ≡ None
       nothing None is answers = is
       nothing (Some done) is answers = let wrong = sym none ∙ answers.1 in none_some (numbered unit done answers.0) wrong
 
-pub core_values : (b : Behaviour) (laws : KeepsLaws b) (d : Doc) (s new : ChipState) → OrdersNothing d s new → ValuesHold d s → UnitsFit b laws s → (t : ℕ) (does : CoreWorks b s new t)
+pub core_values : (b : Behaviour) (laws : KeepsLaws b) (d : Doc) (s new : ChipState) → OrdersNothing d s new → ValuesHold d s → UnitsFit b laws s
+    → (t : ℕ) (does : CoreWorks b s new t)
     → (b.stepped does.unit).1 ≡ None → ValuesHold d new
 core_values b laws d s new e values fit t does none =
     quiet_works d s new e values t does.unit (b.stepped does.unit) does.changes (none_noted s new (b.stepped does.unit).1 does.accesses none) does.replies none
@@ -95,10 +101,12 @@ core_values b laws d s new e values fit t does none =
 pub own_done : (q : Request) (node : Node) → q.source ≡ node.tile → (node_after_request q node).1 ≡ (own_request node.chip node.side node.delivered q.kind).done
 unfolding node_after_request after_snoop
 own_done q node source =
-    ap (λ (b : Bool). (cond b (own_request node.chip node.side node.delivered q.kind) (snooped_with node.chip q node.side (holding node.chip node.side q.line) q.kind)).done)
+    ap (λ (b : Bool). (cond b (own_request node.chip node.side node.delivered q.kind)
+    (snooped_with node.chip q node.side (holding node.chip node.side q.line) q.kind)).done)
     (eq-eqb q.source node.tile source)
 
-pub completed_done : (chip : Chip) (demand : Demand) (place : ℕ) (words : List ℕ) (side : CacheSide) → (completed chip demand place words side).done ≡ Some (done_by demand.pending (place + 1) words)
+pub completed_done : (chip : Chip) (demand : Demand) (place : ℕ) (words : List ℕ) (side : CacheSide)
+    → (completed chip demand place words side).done ≡ Some (done_by demand.pending (place + 1) words)
 completed_done chip demand place words side =
     cond_both (is_getm demand.kind) (completed_store chip demand place words side) (completed_load chip demand place words side)
     (λ outcome. outcome.done ≡ Some (done_by demand.pending (place + 1) words)) (λ writes. refl) (λ reads. refl)
@@ -109,7 +117,8 @@ put_done node = by node.side.misses.back where
   by None = refl
   by (Some back) = refl
 
-module _ (b : Behaviour) (laws : KeepsLaws b) (d : Doc) (s new : ChipState) (e : OrdersNothing d s new) (values : ValuesHold d s) (fit : UnitsFit b laws s) (fits : DocLaws d)
+module _ (b : Behaviour) (laws : KeepsLaws b) (d : Doc) (s new : ChipState) (e : OrdersNothing d s new) (values : ValuesHold d s) (fit : UnitsFit b laws s)
+    (fits : DocLaws d)
     (rising : AreRising s.accesses) (t : ℕ) (does : RequestComes b (chip_of d) s new t) (source : does.request.source ≡ does.unit.node.tile) where
   goes : GoesOn does.unit (node_after_request does.request does.unit.node) (b.delivered does.request does.unit)
   goes = (laws.delivered does.request does.unit (fit t does.unit does.changes.at)).1.goes_on
@@ -128,12 +137,14 @@ module _ (b : Behaviour) (laws : KeepsLaws b) (d : Doc) (s new : ChipState) (e :
       ∙ put_done does.unit.node in
       written_back_values d s new e values fits t does.unit (b.delivered does.request does.unit).0 does.changes does.request next own source kind goes.node
       (none_noted s new (b.delivered does.request does.unit).1 does.accesses
-      (no_answer does.unit (b.delivered does.request does.unit).0 (node_after_request does.request does.unit.node).1 (b.delivered does.request does.unit).1 nothing goes.answers)) does.replies
+      (no_answer does.unit (b.delivered does.request does.unit).0 (node_after_request does.request does.unit.node).1
+      (b.delivered does.request does.unit).1 nothing goes.answers)) does.replies
 
   get_delivered : is_get does.request.kind ≡ true → MeetsDemand does.unit.node.side does.request → ValuesHold d new
   get_delivered asks (demand, stands, is_for) = by (words_here does.unit.node.chip does.unit.node.side demand demand.early) refl where
     done_is : (node_after_request does.request does.unit.node).1
-        ≡ (ordered_with does.unit.node.chip does.unit.node.side does.unit.node.delivered demand (words_here does.unit.node.chip does.unit.node.side demand demand.early)).done
+        ≡ (ordered_with does.unit.node.chip does.unit.node.side does.unit.node.delivered demand
+        (words_here does.unit.node.chip does.unit.node.side demand demand.early)).done
     done_is =
         own_done does.request does.unit.node source
         ∙ ap (λ (o : Outcome). o.done) (get_request does.unit.node.chip does.unit.node.side does.unit.node.delivered does.request.kind asks)
@@ -141,10 +152,13 @@ module _ (b : Behaviour) (laws : KeepsLaws b) (d : Doc) (s new : ChipState) (e :
 
     by : (words : Option (List ℕ)) → words_here does.unit.node.chip does.unit.node.side demand demand.early ≡ words → ValuesHold d new
     by None here =
-        let nothing = done_is ∙ ap (λ (o : Option (List ℕ)). (ordered_with does.unit.node.chip does.unit.node.side does.unit.node.delivered demand o).done) here in
-        ordered_get_values d s new e values fits t does.unit (b.delivered does.request does.unit).0 does.changes does.request next source asks demand stands is_for.unordered here goes.node
+        let nothing =
+        done_is ∙ ap (λ (o : Option (List ℕ)). (ordered_with does.unit.node.chip does.unit.node.side does.unit.node.delivered demand o).done) here in
+        ordered_get_values d s new e values fits t does.unit
+        (b.delivered does.request does.unit).0 does.changes does.request next source asks demand stands is_for.unordered here goes.node
         (none_noted s new (b.delivered does.request does.unit).1 does.accesses
-        (no_answer does.unit (b.delivered does.request does.unit).0 (node_after_request does.request does.unit.node).1 (b.delivered does.request does.unit).1 nothing goes.answers)) does.replies
+        (no_answer does.unit (b.delivered does.request does.unit).0 (node_after_request does.request does.unit.node).1
+        (b.delivered does.request does.unit).1 nothing goes.answers)) does.replies
     by (Some words) here =
         let done = done_by demand.pending (does.unit.node.delivered + 1) words in
         let is : (node_after_request does.request does.unit.node).1 ≡ Some (done_by demand.pending (does.unit.node.delivered + 1) words) =
@@ -152,8 +166,10 @@ module _ (b : Behaviour) (laws : KeepsLaws b) (d : Doc) (s new : ChipState) (e :
         ∙ ap (λ (o : Option (List ℕ)). (ordered_with does.unit.node.chip does.unit.node.side does.unit.node.delivered demand o).done) here
         ∙ completed_done does.unit.node.chip demand does.unit.node.delivered words does.unit.node.side in
         let (number, answer) =
-        some_answer does.unit (b.delivered does.request does.unit).0 (node_after_request does.request does.unit.node).1 (b.delivered does.request does.unit).1 done is goes.answers in
-        own_completed_values d s new e values fits rising t does.unit (b.delivered does.request does.unit).0 does.changes does.request next source asks demand stands is_for words here goes.node
+        some_answer does.unit (b.delivered does.request does.unit).0 (node_after_request does.request does.unit.node).1
+        (b.delivered does.request does.unit).1 done is goes.answers in
+        own_completed_values d s new e values fits rising t does.unit
+        (b.delivered does.request does.unit).0 does.changes does.request next source asks demand stands is_for words here goes.node
         number (one_noted s new (b.delivered does.request does.unit).1 (numbered does.unit done number) does.accesses answer) does.replies
 
   by_kind : (kind : Kind) → does.request.kind ≡ kind → MeetsOwn does.unit.node.side does.request kind → ValuesHold d new
@@ -168,11 +184,13 @@ module _ (b : Behaviour) (laws : KeepsLaws b) (d : Doc) (s new : ChipState) (e :
 pub other_done : (q : Request) (node : Node) → q.source ≢ node.tile → (node_after_request q node).1 ≡ None
 unfolding node_after_request after_snoop
 other_done q node away =
-    ap (λ (b : Bool). (cond b (own_request node.chip node.side node.delivered q.kind) (snooped_with node.chip q node.side (holding node.chip node.side q.line) q.kind)).done)
+    ap (λ (b : Bool). (cond b (own_request node.chip node.side node.delivered q.kind)
+    (snooped_with node.chip q node.side (holding node.chip node.side q.line) q.kind)).done)
     (ne_eqb q.source node.tile away)
     ∙ met_done q (record { chip = node.chip; side = node.side })
 
-pub request_values : (b : Behaviour) (laws : KeepsLaws b) (d : Doc) (s new : ChipState) → OrdersNothing d s new → ValuesHold d s → UnitsFit b laws s → DocLaws d → AreRising s.accesses
+pub request_values : (b : Behaviour) (laws : KeepsLaws b) (d : Doc) (s new : ChipState) → OrdersNothing d s new → ValuesHold d s → UnitsFit b laws s
+    → DocLaws d → AreRising s.accesses
     → (t : ℕ) → RequestComes b (chip_of d) s new t → ValuesHold d new
 request_values b laws d s new e values fit fits rising t does = elim (cases_eq does.request.source does.unit.node.tile) [
   | inl own ↦ own_request_values b laws d s new e values fit fits rising t does own
@@ -213,7 +231,8 @@ module _ (b : Behaviour) (laws : KeepsLaws b) (d : Doc) (s new : ChipState) (e :
       (subst (MessageHasValue d s does.msg) kind carried)
       (reacts.node ∙ ap (λ (p : Performed). p.0) shown)
       (none_noted s new (b.received does.msg does.unit).1 does.accesses
-      (no_answer does.unit (b.received does.msg does.unit).0 (node_after_message does.msg does.unit.node).1 (b.received does.msg does.unit).1 (ap (λ (p : Performed). p.1) shown) reacts.answers)) left
+      (no_answer does.unit (b.received does.msg does.unit).0 (node_after_message does.msg does.unit.node).1 (b.received does.msg does.unit).1
+      (ap (λ (p : Performed). p.1) shown) reacts.answers)) left
 
   -- data: what it performs, by the place of the demand
   data_done : (demand : Demand) (place : Option ℕ) → does.unit.node.side.misses.demand ≡ Some demand → demand.ordered ≡ place
@@ -227,27 +246,33 @@ module _ (b : Behaviour) (laws : KeepsLaws b) (d : Doc) (s new : ChipState) (e :
   answers kind = (subst (MessageHasValue d s does.msg) kind carried) does.unit (ap (slice_get s.units) received.here ∙ does.changes.at)
 
   -- for an ordered demand
-  ordered_data : AreRising s.accesses → does.msg.kind ≡ Data → (demand : Demand) (place : ℕ) → does.unit.node.side.misses.demand ≡ Some demand → demand.ordered ≡ Some place → ValuesHold d new
+  ordered_data : AreRising s.accesses → does.msg.kind ≡ Data → (demand : Demand) (place : ℕ) → does.unit.node.side.misses.demand ≡ Some demand
+      → demand.ordered ≡ Some place → ValuesHold d new
   ordered_data rising kind demand place stands ordered =
       let shown : node_after_message does.msg does.unit.node ≡ words_arrived does.unit.node does.msg.words = message_as Data kind in
       let done : (node_after_message does.msg does.unit.node).1 ≡ Some (done_by demand.pending (place + 1) does.msg.words) =
-      ap (λ (p : Performed). p.1) shown ∙ data_done demand (Some place) stands ordered ∙ completed_done does.unit.node.chip demand place does.msg.words does.unit.node.side in
+      ap (λ (p : Performed). p.1) shown ∙ data_done demand (Some place) stands ordered
+      ∙ completed_done does.unit.node.chip demand place does.msg.words does.unit.node.side in
       let (number, answer) =
       some_answer does.unit (b.received does.msg does.unit).0 (node_after_message does.msg does.unit.node).1 (b.received does.msg does.unit).1
       (done_by demand.pending (place + 1) does.msg.words) done reacts.answers in
-      arrived_values d s new e values rising t does.unit (b.received does.msg does.unit).0 does.changes does.msg.line does.msg.words (answers kind) demand place stands ordered
+      arrived_values d s new e values rising t does.unit (b.received does.msg does.unit).0 does.changes does.msg.line does.msg.words
+      (answers kind) demand place stands ordered
       (reacts.node ∙ ap (λ (p : Performed). p.0) shown) number
-      (one_noted s new (b.received does.msg does.unit).1 (numbered does.unit (done_by demand.pending (place + 1) does.msg.words) number) does.accesses answer) left
+      (one_noted s new (b.received does.msg does.unit).1
+      (numbered does.unit (done_by demand.pending (place + 1) does.msg.words) number) does.accesses answer) left
 
   -- for one that is not ordered yet
-  early_data : does.msg.kind ≡ Data → (demand : Demand) → does.unit.node.side.misses.demand ≡ Some demand → does.msg.line ≡ demand.line → demand.ordered ≡ None → ValuesHold d new
+  early_data : does.msg.kind ≡ Data → (demand : Demand) → does.unit.node.side.misses.demand ≡ Some demand → does.msg.line ≡ demand.line
+      → demand.ordered ≡ None → ValuesHold d new
   early_data kind demand stands line unordered =
       let done : (node_after_message does.msg does.unit.node).1 ≡ None =
       ap (λ (p : Performed). p.1) (message_as Data kind) ∙ data_done demand None stands unordered in
       early_values d s new e values t does.unit (b.received does.msg does.unit).0 does.changes does.msg demand kind stands unordered
       (subst (λ (l : ℕ). AnswersGet d s does.unit.node l does.msg.words) line (answers kind)) reacts.node
       (none_noted s new (b.received does.msg does.unit).1 does.accesses
-      (no_answer does.unit (b.received does.msg does.unit).0 (node_after_message does.msg does.unit.node).1 (b.received does.msg does.unit).1 done reacts.answers))
+      (no_answer does.unit (b.received does.msg does.unit).0 (node_after_message does.msg does.unit.node).1
+      (b.received does.msg does.unit).1 done reacts.answers))
       (λ r p i m there. values.channels r p i m (left r p i m there))
 
   data_values : AreRising s.accesses → DataAnswersGets s → does.msg.kind ≡ Data → ValuesHold d new
@@ -255,7 +280,8 @@ module _ (b : Behaviour) (laws : KeepsLaws b) (d : Doc) (s new : ChipState) (e :
       let (demand, stands, is_for) = arrivals_fit d s e.before waiting t port slot does.unit does.msg new.replies does.changes.at does.replies kind in
       by demand stands is_for.line demand.ordered refl
     where
-      by : (demand : Demand) → does.unit.node.side.misses.demand ≡ Some demand → demand.line ≡ does.msg.line → (place : Option ℕ) → demand.ordered ≡ place → ValuesHold d new
+      by : (demand : Demand) → does.unit.node.side.misses.demand ≡ Some demand → demand.line ≡ does.msg.line → (place : Option ℕ) → demand.ordered ≡ place
+          → ValuesHold d new
       by demand stands line (Some place) ordered = ordered_data rising kind demand place stands ordered
       by demand stands line None unordered = early_data kind demand stands (sym line) unordered
 

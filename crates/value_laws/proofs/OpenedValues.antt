@@ -1,17 +1,14 @@
 -- Before any event memory has the words of the document, which are the values of all lines there.
-use Rattle.std.proofs.Common.{◌≡◌, ℕ, zero, suc, ◌+◌, Bool, true, false, cond, List, [], ◌∷◌, map, refl, sym, ◌∙◌, ap, subst, arith, Option, Some, None}
+use Rattle.std.proofs.Common.{◌≡◌, ℕ, zero, suc, ◌+◌, Bool, true, false, cond, List, [], map, refl, sym, ◌∙◌, ap, subst, arith, Some, None}
 use Rattle.std.specs.Prelude.{◌==◌, slice_index_or}
 use Rattle.std.proofs.lemmas.Bool.{false≢true}
 use Rattle.std.proofs.lemmas.Option.{same_Some}
 use Rattle.order_tracker.specs.Order.{upwards}
 use Rattle.mesh_gen.specs.Grid.{tiles}
 use Rattle.doc_text.specs.Doc.{Doc}
-use Rattle.chip_model.specs.declared.owner.Owner.{Owner}
-use Rattle.chip_model.specs.declared.owner.Owner.TheVariants.{Memory}
-use Rattle.chip_model.specs.Cache.{lookup}
 use Rattle.chip_model.specs.Chip.{Chip, chip_of, home}
 use Rattle.chip_model.specs.Records.{LineRecord, opening_record}
-use Rattle.chip_model.specs.Node.{Node, words_at, record_at, opening_node}
+use Rattle.chip_model.specs.Node.{words_at, record_at}
 use Rattle.chip_model.specs.Units.{UnitState}
 use Rattle.chip_model.specs.ChipState.{opening}
 use Rattle.chip_model.specs.NodeShape.{is_modified}
@@ -24,7 +21,8 @@ use Rattle.chip_laws.proofs.Options.{none_some}
 use Rattle.chip_laws.proofs.Opening.{new_unit, opened_unit}
 
 -- ---- records
-record_is : (chip : Chip) (tile : ℕ) (memory : List ℕ) (line : ℕ) (r : LineRecord) → record_at chip tile memory line ≡ Some r → r ≡ opening_record (words_at memory line)
+record_is : (chip : Chip) (tile : ℕ) (memory : List ℕ) (line : ℕ) (r : LineRecord) → record_at chip tile memory line ≡ Some r
+    → r ≡ opening_record (words_at memory line)
 record_is chip tile memory line r at = by (home chip line == tile) at where
   by : (here : Bool) → cond here (Some (opening_record (words_at memory line))) None ≡ Some r → r ≡ opening_record (words_at memory line)
   by true is = sym (same_Some (opening_record (words_at memory line)) r is)
@@ -55,7 +53,8 @@ opened_value d line = record {
   settled = λ t unit at. subst (λ (x : UnitState). IsSettled [] x.node line 0) (opened_unit d t unit at) (opened_settled d t line);
 }
 
-opened_record : (d : Doc) (t line : ℕ) (r : LineRecord) → slice_index_or (new_unit d t).node.records line None ≡ Some r → RecordHasValue d (opening d) (new_unit d t).node line r r.owner
+opened_record : (d : Doc) (t line : ℕ) (r : LineRecord) → slice_index_or (new_unit d t).node.records line None ≡ Some r
+    → RecordHasValue d (opening d) (new_unit d t).node line r r.owner
 opened_record d t line r at =
     let plain : 0 + line ≡ line = omega arith in
     let is : r ≡ opening_record (words_at d.memory line) =

@@ -38,8 +38,10 @@ no_early : (chip : Chip) (side : CacheSide) (demand : Demand) (early : Option (L
 no_early chip side demand None none = refl
 no_early chip side demand (Some words) none = none_some words (sym none)
 
-module _ (d : Doc) (s new : ChipState) (e : OrdersNothing d s new) (values : ValuesHold d s) (fits : DocLaws d) (t : ℕ) (unit after : UnitState) (c : ChangesUnit s new t unit after)
-    (accesses : new.accesses ≡ s.accesses) (q : Request) (next : slice_get s.network.ordered unit.node.delivered ≡ Some q) (source : q.source ≡ unit.node.tile) (asks : is_get q.kind ≡ true)
+module _ (d : Doc) (s new : ChipState) (e : OrdersNothing d s new) (values : ValuesHold d s) (fits : DocLaws d) (t : ℕ) (unit after : UnitState)
+    (c : ChangesUnit s new t unit after)
+    (accesses : new.accesses ≡ s.accesses) (q : Request) (next : slice_get s.network.ordered unit.node.delivered ≡ Some q)
+    (source : q.source ≡ unit.node.tile) (asks : is_get q.kind ≡ true)
     (demand : Demand) (stands : unit.node.side.misses.demand ≡ Some demand) (unordered : demand.ordered ≡ None)
     (wordless : words_here unit.node.chip unit.node.side demand demand.early ≡ None) (node : after.node ≡ (node_after_request q unit.node).0) where
   abbrev n : ℕ
@@ -115,9 +117,11 @@ module _ (d : Doc) (s new : ChipState) (e : OrdersNothing d s new) (values : Val
       (λ router port slot msg there. values.channels router port slot msg (ap (λ (net : Network Msg). stands_at net router port slot) (sym replies) ∙ there))
 
 -- the delivery of a tile's own get that does not complete keeps all values
-pub ordered_get_values : (d : Doc) (s new : ChipState) → OrdersNothing d s new → ValuesHold d s → DocLaws d → (t : ℕ) (unit after : UnitState) → ChangesUnit s new t unit after
+pub ordered_get_values : (d : Doc) (s new : ChipState) → OrdersNothing d s new → ValuesHold d s → DocLaws d → (t : ℕ) (unit after : UnitState)
+    → ChangesUnit s new t unit after
     → (q : Request) → slice_get s.network.ordered unit.node.delivered ≡ Some q → q.source ≡ unit.node.tile → is_get q.kind ≡ true
-    → (demand : Demand) → unit.node.side.misses.demand ≡ Some demand → demand.ordered ≡ None → words_here unit.node.chip unit.node.side demand demand.early ≡ None
+    → (demand : Demand) → unit.node.side.misses.demand ≡ Some demand → demand.ordered ≡ None
+    → words_here unit.node.chip unit.node.side demand demand.early ≡ None
     → after.node ≡ (node_after_request q unit.node).0 → new.accesses ≡ s.accesses → new.replies ≡ s.replies → ValuesHold d new
 ordered_get_values d s new e values fits t unit after c q next source asks demand stands unordered wordless node accesses replies =
     get_values d s new e values fits t unit after c accesses q next source asks demand stands unordered wordless node replies

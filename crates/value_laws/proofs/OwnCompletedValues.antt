@@ -1,14 +1,13 @@
 -- A tile delivers its own get, whose words are here: they came early, or its copy owns the line. The demand completes, and all
 -- values stay.
-use Rattle.std.proofs.Common.{◌≡◌, ◌≢◌, ℕ, ◌+◌, ◌<◌, ◌≤◌, Bool, true, false, cond, refl, sym, ◌∙◌, ap, subst, arith, inl, inr, ◌⊎◌, Option, Some, None, List, [], ◌∷◌, ◌++◌}
-use Rattle.std.specs.Prelude.{◌==◌, filter, slice_get, slice_index_or}
+use Rattle.std.proofs.Common.{◌≡◌, ◌≢◌, ℕ, ◌+◌, Bool, true, false, cond, refl, sym, ◌∙◌, ap, subst, arith, inl, inr, ◌⊎◌, Option, Some, None, List, [], ◌∷◌, ◌++◌}
+use Rattle.std.specs.Prelude.{◌==◌, filter, slice_get}
 use Rattle.std.specs.List.{list_any}
 use Rattle.std.proofs.lemmas.Bool.{both_ways, cases_lt, eq-eqb}
 use Rattle.std.proofs.lemmas.Option.{same_Some, slice_get_within}
 use Rattle.mesh_gen.specs.declared.request.Request.{Request}
 use Rattle.mesh_gen.specs.declared.msg.Msg.{Msg}
 use Rattle.vc_bank.specs.Places.{Network, at as stands_at}
-use Rattle.report_text.specs.declared.access.Access.{Access}
 use Rattle.doc_text.specs.Doc.{Doc}
 use Rattle.chip_model.specs.declared.line_state.State.{State}
 use Rattle.chip_model.specs.declared.line_state.State.TheVariants.{M, O, S}
@@ -50,7 +49,8 @@ record OwnedHere (node : Node) (line : ℕ) (words : List ℕ) : Type 0 where
   pub state : held.state ≡ O
   pub same : held.words ≡ words
 
-owned_here : (node : Node) (line : ℕ) (words : List ℕ) (copy : Option Held) → lookup node.chip node.side.cache line ≡ copy → owned_words copy ≡ Some words → OwnedHere node line words
+owned_here : (node : Node) (line : ℕ) (words : List ℕ) (copy : Option Held) → lookup node.chip node.side.cache line ≡ copy → owned_words copy ≡ Some words
+    → OwnedHere node line words
 owned_here node line words None there is = none_some words is
 owned_here node line words (Some held) there is = by held.state refl is where
   by : (state : State) → held.state ≡ state → words_in_state held.words state ≡ Some words → OwnedHere node line words
@@ -58,8 +58,10 @@ owned_here node line words (Some held) there is = by held.state refl is where
   by S state_is x = none_some words x
   by O state_is x = record { held = held; there = there; state = state_is; same = same_Some held.words words x }
 
-module _ (d : Doc) (s new : ChipState) (e : OrdersNothing d s new) (values : ValuesHold d s) (fits : DocLaws d) (t : ℕ) (unit after : UnitState) (c : ChangesUnit s new t unit after)
-    (rising : AreRising s.accesses) (q : Request) (next : slice_get s.network.ordered unit.node.delivered ≡ Some q) (source : q.source ≡ unit.node.tile) (asks : is_get q.kind ≡ true)
+module _ (d : Doc) (s new : ChipState) (e : OrdersNothing d s new) (values : ValuesHold d s) (fits : DocLaws d) (t : ℕ) (unit after : UnitState)
+    (c : ChangesUnit s new t unit after)
+    (rising : AreRising s.accesses) (q : Request) (next : slice_get s.network.ordered unit.node.delivered ≡ Some q) (source : q.source ≡ unit.node.tile)
+    (asks : is_get q.kind ≡ true)
     (demand : Demand) (stands : unit.node.side.misses.demand ≡ Some demand) (is_for : IsRequestOf demand q)
     (words : List ℕ) (here : words_here unit.node.chip unit.node.side demand demand.early ≡ Some words) (node : after.node ≡ (node_after_request q unit.node).0)
     (number : ℕ) (accesses : new.accesses ≡ s.accesses ++ numbered unit (done_by demand.pending (unit.node.delivered + 1) words) number ∷ []) where
@@ -91,13 +93,16 @@ module _ (d : Doc) (s new : ChipState) (e : OrdersNothing d s new) (values : Val
   waits = undelivered_open s.network.ordered unit.node n q (one_of d s t unit e.before c.at) next (get_of unit.node.tile q asks source) (omega arith)
 
   -- they have the value of the line where the get stands
-  early_value : (early : Option (List ℕ)) → demand.early ≡ early → words_here unit.node.chip unit.node.side demand early ≡ Some words → HasValue d s demand.line n words
+  early_value : (early : Option (List ℕ)) → demand.early ≡ early → words_here unit.node.chip unit.node.side demand early ≡ Some words
+      → HasValue d s demand.line n words
   early_value (Some came) early is =
       let answers = was.early demand came stands early in
       let same_place : answers.place ≡ n = same_Some answers.place n (sym answers.get ∙ waits) in
-      subst (λ (ws : List ℕ). HasValue d s demand.line n ws) (same_Some came words is) (subst (λ (k : ℕ). HasValue d s demand.line k came) same_place answers.value)
+      subst (λ (ws : List ℕ). HasValue d s demand.line n ws) (same_Some came words is)
+      (subst (λ (k : ℕ). HasValue d s demand.line k came) same_place answers.value)
   early_value None early is = by (is_getm demand.kind) is where
-    by : (b : Bool) → cond {A = Option (List ℕ)} b (owned_words (lookup unit.node.chip unit.node.side.cache demand.line)) None ≡ Some words → HasValue d s demand.line n words
+    by : (b : Bool) → cond {A = Option (List ℕ)} b (owned_words (lookup unit.node.chip unit.node.side.cache demand.line)) None ≡ Some words
+        → HasValue d s demand.line n words
     by false x = none_some words x
     by true x =
         let owned = owned_here unit.node demand.line words (lookup unit.node.chip unit.node.side.cache demand.line) refl x in
@@ -127,7 +132,8 @@ module _ (d : Doc) (s new : ChipState) (e : OrdersNothing d s new) (values : Val
           | inr within ↦ within
         ];
         reached = omega (arith, count);
-        once = λ kind. fresh.1 ∙ sym (ap (λ (requests : List Request). list_any (λ (r : Request). is_getm r.kind) (gets_of_others t demand.line requests)) none_since);
+        once = λ kind.
+            fresh.1 ∙ sym (ap (λ (requests : List Request). list_any (λ (r : Request). is_getm r.kind) (gets_of_others t demand.line requests)) none_since);
         list = λ kind. fresh.0 ∙ sym (ap (λ (requests : List Request). waiting_for (up_to_getm (gets_of_others t demand.line requests))) none_since);
         alone = ap (filter (is_get_of t)) none_since;
         words = words;
@@ -148,11 +154,14 @@ module _ (d : Doc) (s new : ChipState) (e : OrdersNothing d s new) (values : Val
 
   shared : (line : ℕ) → KeepsShared unit.node after.node line
   shared line = record {
-    asks = λ is. absurd (both_ways (is_ordered_write line after.node.side.misses.demand) (ap (is_ordered_write line) (idle d s new e t unit after c completion rising)) is);
+    asks = λ is.
+        absurd (both_ways (is_ordered_write line after.node.side.misses.demand)
+        (ap (is_ordered_write line) (idle d s new e t unit after c completion rising)) is);
     free = λ is. shared_at_count unit.node line unordered;
   }
 
-  other_copy : (m : ℕ) (held : Held) → m ≢ demand.line → lookup unit.node.chip unit.node.side.cache m ≡ Some held → lookup after.node.chip after.node.side.cache m ≡ Some held
+  other_copy : (m : ℕ) (held : Held) → m ≢ demand.line → lookup unit.node.chip unit.node.side.cache m ≡ Some held
+      → lookup after.node.chip after.node.side.cache m ≡ Some held
       → CopyHasValue d new after.node m held held.state
   unfolding completion
   other_copy m held away stood there =
@@ -165,18 +174,21 @@ module _ (d : Doc) (s new : ChipState) (e : OrdersNothing d s new) (values : Val
       let stood = back_stood d s new e t unit after c completion rising back there in
       back_next d s new e t unit after c (completion_keeps d s new e t unit after c completion rising) count back there live
       (value_elsewhere d s new t unit after e.before completion back.line (n + 1) (λ write same.
-      absurd (both_ways (demand.line == back.line) ((unit_holds d s t unit e.before c.at).holds.node.fits.side.apart demand back stands stood) (eq-eqb demand.line back.line (sym same)))))
+      absurd (both_ways (demand.line == back.line) ((unit_holds d s t unit e.before c.at).holds.node.fits.side.apart demand back stands stood)
+      (eq-eqb demand.line back.line (sym same)))))
       (was.back back stood live)
 
-  queued : (i : ℕ) (msg : Msg) → slice_get (unit.node.out ++ (completed unit.node.chip demand n words unit.node.side).sends ++ (answered q unit.node.records).sends) i ≡ Some msg
+  queued : (i : ℕ) (msg : Msg)
+      → slice_get (unit.node.out ++ (completed unit.node.chip demand n words unit.node.side).sends ++ (answered q unit.node.records).sends) i ≡ Some msg
       → MessageHasValue d s msg msg.kind ⊎ ((j : ℕ) × (slice_get (completed unit.node.chip demand n words unit.node.side).sends j ≡ Some msg))
-  queued i msg at = elim (of_append (unit.node.out ++ (completed unit.node.chip demand n words unit.node.side).sends) (answered q unit.node.records).sends i msg at) [
-    | inl ours ↦ elim (of_append unit.node.out (completed unit.node.chip demand n words unit.node.side).sends i msg ours) [
-      | inl stood ↦ inl (was.out i msg stood)
-      | inr sent ↦ inr sent
-    ]
-    | inr answered_is ↦ inl (home_sends d s t unit q answered_is.0 msg fits e.before c.at next was answered_is.1)
-  ]
+  queued i msg at =
+      elim (of_append (unit.node.out ++ (completed unit.node.chip demand n words unit.node.side).sends) (answered q unit.node.records).sends i msg at) [
+        | inl ours ↦ elim (of_append unit.node.out (completed unit.node.chip demand n words unit.node.side).sends i msg ours) [
+          | inl stood ↦ inl (was.out i msg stood)
+          | inr sent ↦ inr sent
+        ]
+        | inr answered_is ↦ inl (home_sends d s t unit q answered_is.0 msg fits e.before c.at next was answered_is.1)
+      ]
 
   own_completed : NodeHasValues d new after.node
   unfolding completion
@@ -184,7 +196,8 @@ module _ (d : Doc) (s new : ChipState) (e : OrdersNothing d s new) (values : Val
       completed_node d s new e t unit after c completion rising other_copy back_value
       (λ i msg there. queued i msg (ap (λ (x : Node). slice_get x.out i) (sym form) ∙ there))
       (λ m r there fresh.
-      records_next d s new e t unit after c (completion_keeps d s new e t unit after c completion rising) count q next was (ap (λ (x : Node). x.records) form) m r there fresh)
+      records_next d s new e t unit after c (completion_keeps d s new e t unit after c completion rising) count q next was
+      (ap (λ (x : Node). x.records) form) m r there fresh)
 
   own_from : new.replies ≡ s.replies → ValuesHold d new
   own_from replies =
@@ -192,10 +205,13 @@ module _ (d : Doc) (s new : ChipState) (e : OrdersNothing d s new) (values : Val
       (λ router port slot msg there. values.channels router port slot msg (ap (λ (net : Network Msg). stands_at net router port slot) (sym replies) ∙ there))
 
 -- the delivery of a tile's own get that completes keeps all values
-pub own_completed_values : (d : Doc) (s new : ChipState) → OrdersNothing d s new → ValuesHold d s → DocLaws d → AreRising s.accesses → (t : ℕ) (unit after : UnitState)
-    → ChangesUnit s new t unit after → (q : Request) → slice_get s.network.ordered unit.node.delivered ≡ Some q → q.source ≡ unit.node.tile → is_get q.kind ≡ true
+pub own_completed_values : (d : Doc) (s new : ChipState) → OrdersNothing d s new → ValuesHold d s → DocLaws d → AreRising s.accesses
+    → (t : ℕ) (unit after : UnitState)
+    → ChangesUnit s new t unit after → (q : Request) → slice_get s.network.ordered unit.node.delivered ≡ Some q → q.source ≡ unit.node.tile
+    → is_get q.kind ≡ true
     → (demand : Demand) → unit.node.side.misses.demand ≡ Some demand → IsRequestOf demand q
     → (words : List ℕ) → words_here unit.node.chip unit.node.side demand demand.early ≡ Some words → after.node ≡ (node_after_request q unit.node).0
-    → (number : ℕ) → new.accesses ≡ s.accesses ++ numbered unit (done_by demand.pending (unit.node.delivered + 1) words) number ∷ [] → new.replies ≡ s.replies → ValuesHold d new
+    → (number : ℕ) → new.accesses ≡ s.accesses ++ numbered unit (done_by demand.pending (unit.node.delivered + 1) words) number ∷ []
+    → new.replies ≡ s.replies → ValuesHold d new
 own_completed_values d s new e values fits rising t unit after c q next source asks demand stands is_for words here node number accesses replies =
     own_from d s new e values fits t unit after c rising q next source asks demand stands is_for words here node number accesses replies

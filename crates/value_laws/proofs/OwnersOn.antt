@@ -23,7 +23,8 @@ unfolding owner_after
 memory_after_back line place ordered is =
     let w = back_of line place ordered is in
     owner_next line place ordered w.put w.at
-    ∙ ap (λ (b : Bool). cond b (owner_by w.put.source w.put.kind (owner line (take place ordered))) (owner line (take place ordered))) (eq-eqb w.put.line line w.same)
+    ∙ ap (λ (b : Bool). cond b (owner_by w.put.source w.put.kind (owner line (take place ordered))) (owner line (take place ordered)))
+    (eq-eqb w.put.line line w.same)
     ∙ ap (λ (k : Kind). owner_by w.put.source k (owner line (take place ordered))) w.kind
     ∙ ap (written_back w.put.source) w.owned
     ∙ ap (λ (b : Bool). cond b Memory (Tile w.put.source)) (eq-eqb w.put.source w.put.source refl)
@@ -69,7 +70,8 @@ tile_stays line n v ordered within owned not_back =
 
 pub tile_owns_on : (line n gap v : ℕ) (ordered : List Request) → n + gap ≤ length ordered → owner line (take n ordered) ≡ Tile v
     → ((k : ℕ) → n ≤ k → k < n + gap → writes_back line ordered k ≡ false) → (w : ℕ) × (owner line (take (n + gap) ordered) ≡ Tile w)
-tile_owns_on line n zero v ordered within owned none = let same : n ≡ n + 0 = omega arith in (v, subst (λ (k : ℕ). owner line (take k ordered) ≡ Tile v) same owned)
+tile_owns_on line n zero v ordered within owned none =
+    let same : n ≡ n + 0 = omega arith in (v, subst (λ (k : ℕ). owner line (take k ordered) ≡ Tile v) same owned)
 tile_owns_on line n (suc gap) v ordered within owned none =
     let same : n + gap + 1 ≡ n + suc gap = omega arith in
     let (w, before) = tile_owns_on line n gap v ordered (omega (arith, within)) owned (λ k above below. none k above (omega (arith, below))) in
@@ -119,7 +121,8 @@ memory_next line n ordered q at owned = elim (memory_after line q q.kind (q.line
 -- the memory owns the line up to a place, or a tile has asked to write it before
 pub first_write : (line from gap : ℕ) (ordered : List Request) → from + gap ≤ length ordered → owner line (take from ordered) ≡ Memory
     → (owner line (take (from + gap) ordered) ≡ Memory) ⊎ FirstWrite line from (from + gap) ordered
-first_write line from zero ordered within owned = let same : from ≡ from + 0 = omega arith in inl (subst (λ (k : ℕ). owner line (take k ordered) ≡ Memory) same owned)
+first_write line from zero ordered within owned =
+    let same : from ≡ from + 0 = omega arith in inl (subst (λ (k : ℕ). owner line (take k ordered) ≡ Memory) same owned)
 first_write line from (suc gap) ordered within owned =
     let same : from + gap + 1 ≡ from + suc gap = omega arith in
     elim (first_write line from gap ordered (omega (arith, within)) owned) [
@@ -127,7 +130,17 @@ first_write line from (suc gap) ordered within owned =
           let (q, at) = some_at ordered (from + gap) (omega (arith, within)) in
           elim (memory_next line (from + gap) ordered q at still) [
             | inl stays ↦ inl (subst (λ (k : ℕ). owner line (take k ordered) ≡ Memory) same stays)
-            | inr writes ↦ inr (record { place = from + gap; beyond = omega arith; before = omega arith; get = q; at = at; kind = writes.0; same = writes.1; owned = still })
+            | inr writes ↦
+                inr (record {
+                  place = from + gap;
+                  beyond = omega arith;
+                  before = omega arith;
+                  get = q;
+                  at = at;
+                  kind = writes.0;
+                  same = writes.1;
+                  owned = still;
+                })
           ])
       | inr first ↦ inr (record {
         place = first.place;

@@ -30,10 +30,12 @@ pub record OrdersNothing (d : Doc) (s new : ChipState) : Type 0 where
   pub places : KeepsPlaces s new
 
 -- a place of the order keeps its request
-pub same_at : (d : Doc) (s new : ChipState) → OrdersNothing d s new → (k : ℕ) (q : Request) → slice_get new.network.ordered k ≡ Some q → slice_get s.network.ordered k ≡ Some q
+pub same_at : (d : Doc) (s new : ChipState) → OrdersNothing d s new → (k : ℕ) (q : Request) → slice_get new.network.ordered k ≡ Some q
+    → slice_get s.network.ordered k ≡ Some q
 same_at d s new e k q at = ap (λ (rs : List Request). slice_get rs k) (sym e.places.order) ∙ at
 
-pub still_at : (d : Doc) (s new : ChipState) → OrdersNothing d s new → (k : ℕ) (q : Request) → slice_get s.network.ordered k ≡ Some q → slice_get new.network.ordered k ≡ Some q
+pub still_at : (d : Doc) (s new : ChipState) → OrdersNothing d s new → (k : ℕ) (q : Request) → slice_get s.network.ordered k ≡ Some q
+    → slice_get new.network.ordered k ≡ Some q
 still_at d s new e k q at = ap (λ (rs : List Request). slice_get rs k) e.places.order ∙ at
 
 -- what is settled at a node that does not change stays so
@@ -42,7 +44,8 @@ pub settled_still : (d : Doc) (s new : ChipState) → OrdersNothing d s new → 
 settled_still d s new e node line place is = subst (λ (rs : List Request). IsSettled rs node line place) (sym e.places.order) is
 
 -- the place of an ordered demand
-pub ordered_of : (entry : Option Demand) (place : ℕ) → place_of_ordered entry ≡ Some place → (demand : Demand) × (entry ≡ Some demand) × (demand.ordered ≡ Some place)
+pub ordered_of : (entry : Option Demand) (place : ℕ) → place_of_ordered entry ≡ Some place
+    → (demand : Demand) × (entry ≡ Some demand) × (demand.ordered ≡ Some place)
 ordered_of None place is = none_some place is
 ordered_of (Some demand) place is = (demand, refl, is)
 
@@ -94,7 +97,8 @@ module _ (d : Doc) (s new : ChipState) (e : OrdersNothing d s new) (t : ℕ) (un
 
   -- it goes on having no write to come, where no copy becomes the only one or its count is beyond the place
   pub settled_on : (line place : ℕ)
-      → (is_modified (lookup after.node.chip after.node.side.cache line) ≡ true → (is_modified (lookup unit.node.chip unit.node.side.cache line) ≡ true) ⊎ (place < after.node.delivered))
+      → (is_modified (lookup after.node.chip after.node.side.cache line) ≡ true
+      → (is_modified (lookup unit.node.chip unit.node.side.cache line) ≡ true) ⊎ (place < after.node.delivered))
       → IsSettled s.network.ordered unit.node line place → IsSettled new.network.ordered after.node line place
   settled_on line place modified is = record {
     delivered = λ g q less at same kind source.
@@ -102,7 +106,9 @@ module _ (d : Doc) (s new : ChipState) (e : OrdersNothing d s new) (t : ℕ) (un
     demand = λ x g stands ordered kind same. elim (cases_lt g place) [
       | inl less ↦ (
           let own = (unit_holds d new t after e.behind now).holds.node.agrees.demand x g stands ordered in
-          let early = is.delivered g own.request less (same_at d s new e g own.request own.at) (own.line ∙ same) (own.kind ∙ kind) (own.source ∙ e.places.tiles t unit after c.at now) in
+          let early =
+          is.delivered g own.request less (same_at d s new e g own.request own.at) (own.line ∙ same) (own.kind ∙ kind)
+          (own.source ∙ e.places.tiles t unit after c.at now) in
           let old = was_ordered x g stands ordered early in
           is.demand old.was g old.stood old.ordered (old.kind ∙ kind) (old.line ∙ same))
       | inr later ↦ later

@@ -39,8 +39,10 @@ pub record KeepsSettled (d : Doc) (s new : ChipState) (unit after : UnitState) :
   pub value : (line place : ℕ) → IsSettled s.network.ordered unit.node line place → line_value d new.accesses line place ≡ line_value d s.accesses line place
 
 -- a step that performs no access, and after which no copy is the only one that was not, keeps them
-pub quiet_keeps : (d : Doc) (s new : ChipState) → OrdersNothing d s new → (t : ℕ) (unit after : UnitState) → ChangesUnit s new t unit after → new.accesses ≡ s.accesses
-    → ((line : ℕ) → is_modified (lookup after.node.chip after.node.side.cache line) ≡ true → is_modified (lookup unit.node.chip unit.node.side.cache line) ≡ true)
+pub quiet_keeps : (d : Doc) (s new : ChipState) → OrdersNothing d s new → (t : ℕ) (unit after : UnitState) → ChangesUnit s new t unit after
+    → new.accesses ≡ s.accesses
+    → ((line : ℕ) → is_modified (lookup after.node.chip after.node.side.cache line) ≡ true
+    → is_modified (lookup unit.node.chip unit.node.side.cache line) ≡ true)
     → KeepsSettled d s new unit after
 quiet_keeps d s new e t unit after c accesses modified = record {
   settled = λ line place is. settled_on d s new e t unit after c line place (λ only. inl (modified line only)) is;
@@ -48,12 +50,14 @@ quiet_keeps d s new e t unit after c accesses modified = record {
 }
 
 -- the place of the get for which a tile waits
-pub waits_place : (s : ChipState) (u line : ℕ) (unit : UnitState) → slice_get s.units u ≡ Some unit → WaitsFor s u line → (place : ℕ) × (place_of_get s unit.node ≡ Some place)
+pub waits_place : (s : ChipState) (u line : ℕ) (unit : UnitState) → slice_get s.units u ≡ Some unit → WaitsFor s u line
+    → (place : ℕ) × (place_of_get s unit.node ≡ Some place)
 waits_place s u line unit at waits =
     let same : waits.unit ≡ unit = same_Some waits.unit unit (sym waits.unit_at ∙ at) in
     (waits.place, ap (λ (x : UnitState). place_of_get s x.node) (sym same) ∙ waits.waits)
 
-module _ (d : Doc) (s new : ChipState) (e : OrdersNothing d s new) (t : ℕ) (unit after : UnitState) (c : ChangesUnit s new t unit after) (keeps : KeepsSettled d s new unit after) where
+module _ (d : Doc) (s new : ChipState) (e : OrdersNothing d s new) (t : ℕ) (unit after : UnitState) (c : ChangesUnit s new t unit after)
+    (keeps : KeepsSettled d s new unit after) where
   -- ---- values of lines at places
   all_settled : (line place : ℕ) → AllSettled s line place → AllSettled new line place
   all_settled line place is =
@@ -86,12 +90,14 @@ module _ (d : Doc) (s new : ChipState) (e : OrdersNothing d s new) (t : ℕ) (un
       (λ apart. absurd (apart refl))
       (λ v other far at apart. settled_still d s new e other.node line place (is v other at apart))
 
-  pub itself_on : (line place : ℕ) (words : List ℕ) → line_value d new.accesses line place ≡ line_value d s.accesses line place → HasOwnValue d s t line place words
+  pub itself_on : (line place : ℕ) (words : List ℕ) → line_value d new.accesses line place ≡ line_value d s.accesses line place
+      → HasOwnValue d s t line place words
       → HasOwnValue d new t line place words
   itself_on line place words same has = record { value = has.value ∙ sym same; settled = itself_settled line place has.settled }
 
   -- a copy of the tile itself that stays, where its node has delivered no more
-  pub itself_copy_on : (line : ℕ) (held : Held) (state : State) → after.node.delivered ≡ unit.node.delivered → place_of_shared after.node line ≡ place_of_shared unit.node line
+  pub itself_copy_on : (line : ℕ) (held : Held) (state : State) → after.node.delivered ≡ unit.node.delivered
+      → place_of_shared after.node line ≡ place_of_shared unit.node line
       → (state ≡ M → line_value d new.accesses line unit.node.delivered ≡ line_value d s.accesses line unit.node.delivered)
       → CopyHasValue d s unit.node line held state → CopyHasValue d new after.node line held state
   itself_copy_on line held M count shared same has =
@@ -106,7 +112,8 @@ module _ (d : Doc) (s new : ChipState) (e : OrdersNothing d s new) (t : ℕ) (un
       subst (λ (k : ℕ). HasValue d new line k held.words) (sym shared) (value_on line (place_of_shared unit.node line) held.words has)
 
   -- a value of which the tile alone may have a write to come is one of which none has, where the tile has none
-  pub with_itself : (line place : ℕ) (words : List ℕ) → IsSettled new.network.ordered after.node line place → HasOwnValue d new t line place words → HasValue d new line place words
+  pub with_itself : (line place : ℕ) (words : List ℕ) → IsSettled new.network.ordered after.node line place → HasOwnValue d new t line place words
+      → HasValue d new line place words
   with_itself line place words settled has = record {
     value = has.value;
     settled = λ u other at. elim (cases_eq u t) [
@@ -119,7 +126,8 @@ module _ (d : Doc) (s new : ChipState) (e : OrdersNothing d s new) (t : ℕ) (un
 
   -- ---- words that answer gets
   -- a tile that still waits for a get waits for the one for which it waited
-  pub place_on : (u place : ℕ) (old other : UnitState) → slice_get s.units u ≡ Some old → slice_get new.units u ≡ Some other → (k : ℕ) × (place_of_get new other.node ≡ Some k)
+  pub place_on : (u place : ℕ) (old other : UnitState) → slice_get s.units u ≡ Some old → slice_get new.units u ≡ Some other
+      → (k : ℕ) × (place_of_get new other.node ≡ Some k)
       → place_of_get s old.node ≡ Some place → place_of_get new other.node ≡ Some place
   place_on u place old other was is waits get = elim (e.places.places u old other was is) [
     | inl same ↦ same ∙ get
@@ -153,12 +161,15 @@ module _ (d : Doc) (s new : ChipState) (e : OrdersNothing d s new) (t : ℕ) (un
 
   -- words that came early, of a demand that still stands
   pub early_on : (u : ℕ) (old other : UnitState) (demand : Demand) (words : List ℕ) → slice_get s.units u ≡ Some old → slice_get new.units u ≡ Some other
-      → other.node.side.misses.demand ≡ Some demand → demand.early ≡ Some words → AnswersGet d s old.node demand.line words → AnswersGet d new other.node demand.line words
+      → other.node.side.misses.demand ≡ Some demand → demand.early ≡ Some words → AnswersGet d s old.node demand.line words
+      → AnswersGet d new other.node demand.line words
   early_on u old other demand words was is stands early has =
-      answers_on u demand.line old other words was is (waits_place new u demand.line other is (early_waits d new u other demand words e.behind is stands early)) has
+      answers_on u demand.line old other words was is
+      (waits_place new u demand.line other is (early_waits d new u other demand words e.behind is stands early)) has
 
   -- ---- records
-  pub record_on : (old node : Node) (line : ℕ) (r : LineRecord) (owner : Owner) → node.delivered ≡ old.delivered → RecordHasValue d s old line r owner → RecordHasValue d new node line r owner
+  pub record_on : (old node : Node) (line : ℕ) (r : LineRecord) (owner : Owner) → node.delivered ≡ old.delivered → RecordHasValue d s old line r owner
+      → RecordHasValue d new node line r owner
   record_on old node line r Memory same has = subst (λ (n : ℕ). HasValue d new line n r.words) (sym same) (value_on line old.delivered r.words has)
   record_on old node line r (Tile owner) same has = λ place next.
       value_on line place r.words (has place (ap (λ (n : ℕ). next_from n (places_written_back line s.network.ordered)) (sym same)

@@ -1,6 +1,6 @@
 -- What a completed demand leaves of its line: its words are the value of the line at the places behind its request, as long as no
 -- other tile has asked to write the line.
-use Rattle.std.proofs.Common.{◌≡◌, ◌≢◌, ℕ, zero, suc, ◌+◌, ◌-◌, ◌<◌, ◌≤◌, Bool, true, false, refl, sym, ◌∙◌, ap, subst, arith, inl, inr, Some, List, [], ◌∷◌, ◌++◌, take, length}
+use Rattle.std.proofs.Common.{◌≡◌, ◌≢◌, ℕ, zero, suc, ◌+◌, ◌-◌, ◌<◌, ◌≤◌, Bool, true, false, refl, sym, ◌∙◌, ap, subst, arith, inl, inr, Some, List, take, length}
 use Rattle.std.specs.Prelude.{◌==◌, ◌&&◌, not, nat_le, slice_get}
 use Rattle.std.specs.List.{AllByRecursion}
 use Rattle.std.proofs.lemmas.Bool.{and_parts, and_from, cases_eq, cases_lt, both_ways, eqb-true, eq-eqb, ne_eqb, leb-true, le-leb, lt-leb}
@@ -49,7 +49,8 @@ own_get : (t : ℕ) (q : Request) → q.kind ≡ GetM → q.source ≡ t → is_
 own_get t q kind source = ap (λ (b : Bool). b && (q.source == t)) (ap is_get kind) ∙ eq-eqb q.source t source
 
 -- two places up to which a line has the same writes
-same_writes : (line m p : ℕ) (b : Access) → p ≤ m → (is_write b ≡ true → line_of b.address ≡ line → b.time ≤ m → b.time ≤ p) → writes_by line m b ≡ writes_by line p b
+same_writes : (line m p : ℕ) (b : Access) → p ≤ m → (is_write b ≡ true → line_of b.address ≡ line → b.time ≤ m → b.time ≤ p)
+    → writes_by line m b ≡ writes_by line p b
 same_writes line m p b less early = by (is_write b) (line_of b.address == line) refl refl where
   at : b.time ≤ p → nat_le b.time m ≡ nat_le b.time p
   at is = le-leb b.time m (omega (arith, is, less)) ∙ sym (le-leb b.time p is)
@@ -62,13 +63,16 @@ same_writes line m p b less early = by (is_write b) (line_of b.address == line) 
     | inr sooner ↦ at (early w (eqb-true (line_of b.address) line h) sooner)
   ]
 
-module _ (d : Doc) (s new : ChipState) (e : OrdersNothing d s new) (t : ℕ) (unit after : UnitState) (c : ChangesUnit s new t unit after) (is : Completion d s new t unit after)
+module _ (d : Doc) (s new : ChipState) (e : OrdersNothing d s new) (t : ℕ) (unit after : UnitState) (c : ChangesUnit s new t unit after)
+    (is : Completion d s new t unit after)
     (keeps : KeepsSettled d s new unit after) where
   abbrev ordered : List Request
   ordered = s.network.ordered
 
   pub within : after.node.delivered ≤ length ordered
-  within = let less = (known_of d new e.behind t after (now d s new e t unit after c)).within in omega (arith, less, ap (λ (rs : List Request). length rs) e.places.order)
+  within =
+      let less =
+      (known_of d new e.behind t after (now d s new e t unit after c)).within in omega (arith, less, ap (λ (rs : List Request). length rs) e.places.order)
 
   -- ---- who asks to write
   -- where those that wait only read, other tiles do not
@@ -77,7 +81,8 @@ module _ (d : Doc) (s new : ChipState) (e : OrdersNothing d s new) (t : ℕ) (un
   asks_own reads k q above below at same kind = elim (cases_eq q.source t) [
     | inl own ↦ own
     | inr other ↦ absurd (both_ways (is_getm q.kind)
-        (reads_between (is_of_others t is.demand.line) ordered is.place after.node.delivered k q reads above below at (other_getm t is.demand.line q kind same other))
+        (reads_between (is_of_others t is.demand.line) ordered is.place after.node.delivered k q reads above below at
+        (other_getm t is.demand.line q kind same other))
         (ap is_getm kind))
   ]
 
@@ -88,7 +93,8 @@ module _ (d : Doc) (s new : ChipState) (e : OrdersNothing d s new) (t : ℕ) (un
       let own = asks_own reads k q above below at same kind in
       both_ways (is_get_of t q) (none_between (is_get_of t) ordered is.place after.node.delivered k q is.alone above below at) (own_get t q kind own)
 
-  pub reads_after_store : is.demand.kind ≡ GetM → ends_in_getm is.demand.list ≡ false → AsksOnly (λ u. u ≡ t) is.demand.line is.place after.node.delivered ordered
+  pub reads_after_store : is.demand.kind ≡ GetM → ends_in_getm is.demand.list ≡ false
+      → AsksOnly (λ u. u ≡ t) is.demand.line is.place after.node.delivered ordered
   reads_after_store kind ends =
       asks_own (all_read (gets_of_others t is.demand.line (between is.place after.node.delivered ordered)) (ap ends_in_getm (sym (is.list kind)) ∙ ends))
 

@@ -27,7 +27,8 @@ record StandsFor (p : Request → Bool) (requests : List Request) (w : Waiting) 
   pub first : (k : ℕ) (r : Request) → k < place → slice_get requests k ≡ Some r → p r ≡ true → is_getm r.kind ≡ false
 
 -- behind a request that does not ask to write, or does not count
-stands_later : (p : Request → Bool) (q : Request) (requests : List Request) (w : Waiting) → (p q ≡ true → is_getm q.kind ≡ false) → StandsFor p requests w → StandsFor p (q ∷ requests) w
+stands_later : (p : Request → Bool) (q : Request) (requests : List Request) (w : Waiting) → (p q ≡ true → is_getm q.kind ≡ false) → StandsFor p requests w
+    → StandsFor p (q ∷ requests) w
 stands_later p q requests w reads is = record {
   place = suc is.place;
   get = is.get;
@@ -51,7 +52,8 @@ stands_first p q requests w passes same = record {
   first = λ k r less at counts. absurd (omega (arith, less));
 }
 
-stands_for : (p : Request → Bool) (requests : List Request) (i : ℕ) (w : Waiting) → slice_get (waiting_for (up_to_getm (filter p requests))) i ≡ Some w → StandsFor p requests w
+stands_for : (p : Request → Bool) (requests : List Request) (i : ℕ) (w : Waiting) → slice_get (waiting_for (up_to_getm (filter p requests))) i ≡ Some w
+    → StandsFor p requests w
 stands_for p [] i w at = none_some w at
 stands_for p (q ∷ requests) i w at = by (p q) refl (is_getm q.kind) refl i at (stands_for p requests) where
   by : (counts : Bool) → p q ≡ counts → (writes : Bool) → is_getm q.kind ≡ writes → (i : ℕ)
@@ -59,10 +61,13 @@ stands_for p (q ∷ requests) i w at = by (p q) refl (is_getm q.kind) refl i at 
       → ((j : ℕ) (v : Waiting) → slice_get (waiting_for (up_to_getm (filter p requests))) j ≡ Some v → StandsFor p requests v) → StandsFor p (q ∷ requests) w
   by false fails writes is i e rest = stands_later p q requests w (λ passes. absurd (both_ways (p q) fails passes)) (rest i w e)
   by true passes writes is i e rest =
-      among writes is i (sym (ap (λ (b : Bool). slice_get (waiting_for (cond {A = List Request} b (q ∷ []) (q ∷ up_to_getm (filter p requests)))) i) is) ∙ e) rest passes
+      among writes is i (sym (ap (λ (b : Bool). slice_get (waiting_for (cond {A = List Request} b (q ∷ []) (q ∷ up_to_getm (filter p requests)))) i) is)
+      ∙ e) rest passes
     where
-      among : (writes : Bool) → is_getm q.kind ≡ writes → (i : ℕ) → slice_get (waiting_for (cond {A = List Request} writes (q ∷ []) (q ∷ up_to_getm (filter p requests)))) i ≡ Some w
-          → ((j : ℕ) (v : Waiting) → slice_get (waiting_for (up_to_getm (filter p requests))) j ≡ Some v → StandsFor p requests v) → p q ≡ true → StandsFor p (q ∷ requests) w
+      among : (writes : Bool) → is_getm q.kind ≡ writes → (i : ℕ)
+          → slice_get (waiting_for (cond {A = List Request} writes (q ∷ []) (q ∷ up_to_getm (filter p requests)))) i ≡ Some w
+          → ((j : ℕ) (v : Waiting) → slice_get (waiting_for (up_to_getm (filter p requests))) j ≡ Some v → StandsFor p requests v) → p q ≡ true
+          → StandsFor p (q ∷ requests) w
       among true is zero x rest passes = stands_first p q requests w passes (same_Some (waiting_of q) w x)
       among true is (suc i) x rest passes = none_some w x
       among false is zero x rest passes = stands_first p q requests w passes (same_Some (waiting_of q) w x)
@@ -104,7 +109,8 @@ pub waits_at_place : (p : Request → Bool) (ordered : List Request) (from below
     → slice_get (waiting_for (up_to_getm (filter p (between from below ordered)))) i ≡ Some w → WaitsAtPlace p ordered from below w
 waits_at_place p ordered from below i w at =
     let stands = stands_for p (between from below ordered) i w at in
-    let taken : slice_get (take below ordered) (from + 1 + stands.place) ≡ Some stands.get = sym (get_drop (take below ordered) (from + 1) stands.place) ∙ stands.at in
+    let taken : slice_get (take below ordered) (from + 1 + stands.place) ≡ Some stands.get =
+    sym (get_drop (take below ordered) (from + 1) stands.place) ∙ stands.at in
     record {
       place = from + 1 + stands.place;
       get = stands.get;
@@ -119,12 +125,15 @@ waits_at_place p ordered from below i w at =
     }
 
 -- where none of them asks to write, no request between the places that counts does
-each_reads : (p : Request → Bool) (requests : List Request) (k : ℕ) (q : Request) → reads_only (filter p requests) ≡ true → slice_get requests k ≡ Some q → p q ≡ true
+each_reads : (p : Request → Bool) (requests : List Request) (k : ℕ) (q : Request) → reads_only (filter p requests) ≡ true → slice_get requests k ≡ Some q
+    → p q ≡ true
     → is_getm q.kind ≡ false
 each_reads p [] k q reads at passes = none_some q at
 each_reads p (first ∷ requests) k q reads at passes = by (p first) refl k at reads (each_reads p requests) where
-  by : (counts : Bool) → p first ≡ counts → (k : ℕ) → slice_get (first ∷ requests) k ≡ Some q → reads_only (cond {A = List Request} counts (first ∷ filter p requests) (filter p requests)) ≡ true
-      → ((j : ℕ) (r : Request) → reads_only (filter p requests) ≡ true → slice_get requests j ≡ Some r → p r ≡ true → is_getm r.kind ≡ false) → is_getm q.kind ≡ false
+  by : (counts : Bool) → p first ≡ counts → (k : ℕ) → slice_get (first ∷ requests) k ≡ Some q
+      → reads_only (cond {A = List Request} counts (first ∷ filter p requests) (filter p requests)) ≡ true
+      → ((j : ℕ) (r : Request) → reads_only (filter p requests) ≡ true → slice_get requests j ≡ Some r → p r ≡ true → is_getm r.kind ≡ false)
+      → is_getm q.kind ≡ false
   by false fails zero x all rest = let same : first ≡ q = same_Some first q x in absurd (both_ways (p q) (ap p (sym same) ∙ fails) passes)
   by false fails (suc j) x all rest = rest j q all x passes
   by true counts j x all rest = among (is_getm first.kind) refl all j x where
@@ -134,7 +143,8 @@ each_reads p (first ∷ requests) k q reads at passes = by (p first) refl k at r
     among false is all zero y = ap (λ (r : Request). is_getm r.kind) (sym (same_Some first q y)) ∙ is
     among false is all (suc j) y = rest j q all y passes
 
-pub reads_between : (p : Request → Bool) (ordered : List Request) (from below k : ℕ) (q : Request) → reads_only (filter p (between from below ordered)) ≡ true → from < k → k < below
+pub reads_between : (p : Request → Bool) (ordered : List Request) (from below k : ℕ) (q : Request)
+    → reads_only (filter p (between from below ordered)) ≡ true → from < k → k < below
     → slice_get ordered k ≡ Some q → p q ≡ true → is_getm q.kind ≡ false
 reads_between p ordered from below k q reads above less at passes =
     each_reads p (between from below ordered) (k - (from + 1)) q reads (at_between ordered from below k q above less at) passes
@@ -143,13 +153,15 @@ reads_between p ordered from below k q reads above less at passes =
 none_passes : (p : Request → Bool) (requests : List Request) (k : ℕ) (q : Request) → filter p requests ≡ [] → slice_get requests k ≡ Some q → p q ≡ false
 none_passes p [] k q none at = none_some q at
 none_passes p (first ∷ requests) k q none at = by (p first) refl k at none (none_passes p requests) where
-  by : (counts : Bool) → p first ≡ counts → (k : ℕ) → slice_get (first ∷ requests) k ≡ Some q → cond {A = List Request} counts (first ∷ filter p requests) (filter p requests) ≡ []
+  by : (counts : Bool) → p first ≡ counts → (k : ℕ) → slice_get (first ∷ requests) k ≡ Some q
+      → cond {A = List Request} counts (first ∷ filter p requests) (filter p requests) ≡ []
       → ((j : ℕ) (r : Request) → filter p requests ≡ [] → slice_get requests j ≡ Some r → p r ≡ false) → p q ≡ false
   by true counts j x empty rest = cc
   by false fails zero x empty rest = ap p (sym (same_Some first q x)) ∙ fails
   by false fails (suc j) x empty rest = rest j q empty x
 
-pub none_between : (p : Request → Bool) (ordered : List Request) (from below k : ℕ) (q : Request) → filter p (between from below ordered) ≡ [] → from < k → k < below
+pub none_between : (p : Request → Bool) (ordered : List Request) (from below k : ℕ) (q : Request) → filter p (between from below ordered) ≡ [] → from < k
+    → k < below
     → slice_get ordered k ≡ Some q → p q ≡ false
 none_between p ordered from below k q none above less at =
     none_passes p (between from below ordered) (k - (from + 1)) q none (at_between ordered from below k q above less at)

@@ -37,9 +37,12 @@ use Rattle.value_laws.proofs.NextValues.{same_shared, back_owned, copy_next}
 use Rattle.value_laws.proofs.AnsweredValues.{records_next, home_sends}
 use Rattle.value_laws.proofs.OwnDeliveries.{delivered_node, own_node, of_append}
 
-module _ (d : Doc) (s new : ChipState) (e : OrdersNothing d s new) (values : ValuesHold d s) (fits : DocLaws d) (t : ℕ) (unit after : UnitState) (c : ChangesUnit s new t unit after)
-    (accesses : new.accesses ≡ s.accesses) (q : Request) (next : slice_get s.network.ordered unit.node.delivered ≡ Some q) (source : q.source ≡ unit.node.tile) (kind : q.kind ≡ PutM)
-    (back : WriteBack) (stands : unit.node.side.misses.back ≡ Some back) (line : back.line ≡ q.line) (node : after.node ≡ (node_after_request q unit.node).0) where
+module _ (d : Doc) (s new : ChipState) (e : OrdersNothing d s new) (values : ValuesHold d s) (fits : DocLaws d) (t : ℕ) (unit after : UnitState)
+    (c : ChangesUnit s new t unit after)
+    (accesses : new.accesses ≡ s.accesses) (q : Request) (next : slice_get s.network.ordered unit.node.delivered ≡ Some q)
+    (source : q.source ≡ unit.node.tile) (kind : q.kind ≡ PutM)
+    (back : WriteBack) (stands : unit.node.side.misses.back ≡ Some back) (line : back.line ≡ q.line)
+    (node : after.node ≡ (node_after_request q unit.node).0) where
   was : NodeHasValues d s unit.node
   was = values.nodes t unit c.at
 
@@ -70,16 +73,20 @@ module _ (d : Doc) (s new : ChipState) (e : OrdersNothing d s new) (values : Val
 
   undelivered : is_undelivered s unit.node.delivered ≡ true
   undelivered =
-      let same : delivered_at s q.source ≡ unit.node.delivered = ap (delivered_at s) (source ∙ (unit_holds d s t unit e.before c.at).holds.node.agrees.tile) ∙ ap count_of c.at in
-      ap (is_undelivered_at s unit.node.delivered) next ∙ ap (λ (k : ℕ). nat_le k unit.node.delivered) same ∙ le-leb unit.node.delivered unit.node.delivered (omega arith)
+      let same : delivered_at s q.source ≡ unit.node.delivered =
+      ap (delivered_at s) (source ∙ (unit_holds d s t unit e.before c.at).holds.node.agrees.tile) ∙ ap count_of c.at in
+      ap (is_undelivered_at s unit.node.delivered) next ∙ ap (λ (k : ℕ). nat_le k unit.node.delivered) same
+      ∙ le-leb unit.node.delivered unit.node.delivered (omega arith)
 
   back_sent : (i : ℕ) (msg : Msg) → slice_get (own_put unit.node.chip unit.node.side (Some back)).sends i ≡ Some msg → MessageHasValue d s msg msg.kind
   back_sent i msg at = by back.live refl i at where
     by : (live : Bool) → back.live ≡ live → (i : ℕ)
-        → slice_get (cond {A = List Msg} live (record { to = home unit.node.chip back.line; kind = Back; line = back.line; words = back.words } ∷ []) []) i ≡ Some msg
+        → slice_get (cond {A = List Msg} live
+        (record { to = home unit.node.chip back.line; kind = Back; line = back.line; words = back.words } ∷ []) []) i ≡ Some msg
         → MessageHasValue d s msg msg.kind
     by true live zero e_is =
-        subst (λ (m : Msg). MessageHasValue d s m m.kind) (same_Some (record { to = home unit.node.chip back.line; kind = Back; line = back.line; words = back.words }) msg e_is)
+        subst (λ (m : Msg). MessageHasValue d s m m.kind)
+        (same_Some (record { to = home unit.node.chip back.line; kind = Back; line = back.line; words = back.words }) msg e_is)
         (record {
           place = unit.node.delivered;
           put = (e.before.backs back.line).undelivered unit.node.delivered (writes live) undelivered;
@@ -88,7 +95,8 @@ module _ (d : Doc) (s new : ChipState) (e : OrdersNothing d s new) (values : Val
     by true live (suc i) e_is = none_some msg e_is
     by false live i e_is = none_some msg e_is
 
-  sent : (i : ℕ) (msg : Msg) → slice_get (unit.node.out ++ (own_put unit.node.chip unit.node.side (Some back)).sends ++ (answered q unit.node.records).sends) i ≡ Some msg
+  sent : (i : ℕ) (msg : Msg)
+      → slice_get (unit.node.out ++ (own_put unit.node.chip unit.node.side (Some back)).sends ++ (answered q unit.node.records).sends) i ≡ Some msg
       → MessageHasValue d s msg msg.kind
   sent i msg at = elim (of_append (unit.node.out ++ (own_put unit.node.chip unit.node.side (Some back)).sends) (answered q unit.node.records).sends i msg at) [
     | inl ours ↦ elim (of_append unit.node.out (own_put unit.node.chip unit.node.side (Some back)).sends i msg ours) [
@@ -120,8 +128,10 @@ module _ (d : Doc) (s new : ChipState) (e : OrdersNothing d s new) (values : Val
       (λ router port slot msg there. values.channels router port slot msg (ap (λ (net : Network Msg). stands_at net router port slot) (sym replies) ∙ there))
 
 -- the delivery of a tile's own write-back keeps all values
-pub written_back_values : (d : Doc) (s new : ChipState) → OrdersNothing d s new → ValuesHold d s → DocLaws d → (t : ℕ) (unit after : UnitState) → ChangesUnit s new t unit after
-    → (q : Request) → slice_get s.network.ordered unit.node.delivered ≡ Some q → OwnRequestFits unit.node.tile unit.node.side q → q.source ≡ unit.node.tile → q.kind ≡ PutM
+pub written_back_values : (d : Doc) (s new : ChipState) → OrdersNothing d s new → ValuesHold d s → DocLaws d → (t : ℕ) (unit after : UnitState)
+    → ChangesUnit s new t unit after
+    → (q : Request) → slice_get s.network.ordered unit.node.delivered ≡ Some q → OwnRequestFits unit.node.tile unit.node.side q → q.source ≡ unit.node.tile
+    → q.kind ≡ PutM
     → after.node ≡ (node_after_request q unit.node).0 → new.accesses ≡ s.accesses → new.replies ≡ s.replies → ValuesHold d new
 written_back_values d s new e values fits t unit after c q next own source kind node accesses replies =
     let meets : MeetsBack unit.node.side q = subst (MeetsOwn unit.node.side q) kind (own source) in

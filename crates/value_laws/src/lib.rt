@@ -3,6 +3,8 @@
 
 mod cores;
 mod laws;
+mod orders;
 
 pub use cores::core_run_laws;
 pub use laws::{sequence_laws, value_laws};
+pub use orders::delivery_order_laws;
