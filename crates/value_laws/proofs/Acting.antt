@@ -1,20 +1,17 @@
 -- A tile performs an access: what the access stands on, where it hits and where it completes a demand.
-use Rattle.std.proofs.Common.{◌≡◌, ◌≢◌, ℕ, ◌+◌, ◌<◌, ◌≤◌, Bool, true, false, ◌==◌, ◌&&◌, ◌||◌, Some, List, take, sym, ap, ◌∙◌, refl, subst, inl, inr, arith}
-use Rattle.std.specs.Prelude.{nat_le, slice_get, slice_index}
+use Rattle.std.proofs.Common.{◌≡◌, ℕ, ◌+◌, ◌<◌, true, false, Some, List, take, sym, ap, ◌∙◌, refl, subst, inl, inr, arith}
+use Rattle.std.specs.Prelude.{slice_get, slice_index}
 use Rattle.std.specs.List.{AllByRecursion}
 use Rattle.std.proofs.lemmas.Bool.{cases_eq, cases_lt, cases_order, le-leb, lt-leb}
 use Rattle.std.proofs.lemmas.Bool.Decides.{nat_tests}
-use Rattle.mesh_gen.specs.declared.kind.Kind.TheVariants.{GetS, GetM}
-use Rattle.mesh_gen.specs.declared.request.Request.{Request}
 use Rattle.report_text.specs.declared.access.Access.{Access}
 use Rattle.report_text.specs.declared.access.AccessKind.{AccessKind}
 use Rattle.report_text.specs.declared.access.AccessKind.TheVariants.{Load, Store, Swap, Add}
-use Rattle.report_text.specs.Accesses.{reads, writes, read_by}
+use Rattle.report_text.specs.Accesses.{reads, read_by}
 use Rattle.doc_text.specs.Doc.{Doc}
-use Rattle.chip_model.specs.declared.owner.Owner.TheVariants.{Tile}
 use Rattle.chip_model.specs.declared.pending.Pending.{Pending}
 use Rattle.chip_model.specs.Chip.{line_of, word_of}
-use Rattle.chip_model.specs.Misses.{Demand, is_getm, request_for}
+use Rattle.chip_model.specs.Misses.{request_for}
 use Rattle.chip_model.specs.Snoop.{done_by, word_in}
 use Rattle.chip_model.specs.Units.{UnitState}
 use Rattle.chip_model.specs.ChipState.{ChipState}

@@ -9,12 +9,11 @@ use Rattle.mesh_gen.specs.declared.msg.Msg.{Msg}
 use Rattle.mesh_gen.specs.declared.msg_kind.MsgKind.{MsgKind}
 use Rattle.mesh_gen.specs.declared.msg_kind.MsgKind.TheVariants.{Data, Back}
 use Rattle.mesh_gen.specs.declared.request.Request.{Request}
-use Rattle.report_text.specs.declared.access.Access.{Access}
 use Rattle.doc_text.specs.Doc.{Doc}
 use Rattle.chip_model.specs.declared.done.Done.{Done}
 use Rattle.chip_model.specs.Misses.{Demand}
-use Rattle.chip_model.specs.Snoop.{Outcome, done_by, words_here, ordered_with, own_get, own_request, data_at, data_for, after_data}
-use Rattle.chip_model.specs.Node.{Node, Performed, node_after_request, node_after_message, arrived_as, words_arrived}
+use Rattle.chip_model.specs.Snoop.{done_by, words_here, ordered_with, own_request}
+use Rattle.chip_model.specs.Node.{Node, node_after_request, node_after_message, arrived_as, words_arrived}
 use Rattle.chip_model.specs.Units.{UnitState}
 use Rattle.chip_model.specs.ChipState.{ChipState}
 use Rattle.chip_model.specs.BehaviourLaws.{numbered}
@@ -26,8 +25,7 @@ use Rattle.chip_laws.specs.EventSteps.{ChangesUnit}
 use Rattle.chip_laws.proofs.Options.{none_some}
 use Rattle.value_laws.specs.Sequences.{AreRising}
 use Rattle.value_laws.proofs.SettledSteps.{OrdersNothing}
-use Rattle.value_laws.proofs.OwnDeliveries.{get_request}
-use Rattle.value_laws.proofs.NodeEvents.{own_done, put_done, other_done, completed_done}
+use Rattle.value_laws.proofs.DoneAccesses.{completed_done, own_done, get_done, put_done, other_done, data_done}
 use Rattle.value_laws.proofs.Completion.{CompletesBy}
 use Rattle.value_laws.proofs.OwnCompletedValues.{completes as own_completes}
 use Rattle.value_laws.proofs.ArrivedValues.{completes as data_completes}
@@ -48,15 +46,9 @@ record OwnGet (q : Request) (node : Node) (one : Done) : Type 0 where
 get_performs : (q : Request) (node : Node) (one : Done) → q.source ≡ node.tile → is_get q.kind ≡ true → MeetsDemand node.side q
     → (node_after_request q node).1 ≡ Some one → OwnGet q node one
 get_performs q node one source asks (demand, stands, is_for) done = by (words_here node.chip node.side demand demand.early) refl where
-  done_is : (node_after_request q node).1 ≡ (ordered_with node.chip node.side node.delivered demand (words_here node.chip node.side demand demand.early)).done
-  done_is =
-      own_done q node source
-      ∙ ap (λ (o : Outcome). o.done) (get_request node.chip node.side node.delivered q.kind asks)
-      ∙ ap (λ (o : Option Demand). (own_get node.chip node.side node.delivered o).done) stands
-
   by : (words : Option (List ℕ)) → words_here node.chip node.side demand demand.early ≡ words → OwnGet q node one
   by None here =
-      none_some one (sym (done_is ∙ ap (λ (o : Option (List ℕ)). (ordered_with node.chip node.side node.delivered demand o).done) here) ∙ done)
+      none_some one (sym (get_done q node demand source asks stands ∙ ap (λ (o : Option (List ℕ)). (ordered_with node.chip node.side node.delivered demand o).done) here) ∙ done)
   by (Some words) here = record {
     source = source;
     asks = asks;
@@ -66,7 +58,7 @@ get_performs q node one source asks (demand, stands, is_for) done = by (words_he
     words = words;
     here = here;
     done = same_Some one (done_by demand.pending (node.delivered + 1) words) (sym done
-        ∙ done_is
+        ∙ get_done q node demand source asks stands
         ∙ ap (λ (o : Option (List ℕ)). (ordered_with node.chip node.side node.delivered demand o).done) here
         ∙ completed_done node.chip demand node.delivered words node.side);
   }
@@ -107,26 +99,19 @@ record Words (msg : Msg) (node : Node) (one : Done) : Type 0 where
   ordered : demand.ordered ≡ Some place
   done : one ≡ done_by demand.pending (place + 1) msg.words
 
-data_is : (msg : Msg) (node : Node) (demand : Demand) (place : Option ℕ) → node.side.misses.demand ≡ Some demand → demand.ordered ≡ place
-    → (words_arrived node msg.words).1 ≡ (data_at node.chip node.side msg.words demand place).done
-unfolding after_data
-data_is msg node demand place stands ordered =
-    ap (λ (o : Option Demand). (data_for node.chip node.side msg.words o).done) stands
-    ∙ ap (λ (o : Option ℕ). (data_at node.chip node.side msg.words demand o).done) ordered
-
 words_perform : (msg : Msg) (node : Node) (one : Done) (demand : Demand) → msg.kind ≡ Data → node.side.misses.demand ≡ Some demand
     → (words_arrived node msg.words).1 ≡ Some one
     → Words msg node one
 words_perform msg node one demand kind stands done = by demand.ordered refl where
   by : (place : Option ℕ) → demand.ordered ≡ place → Words msg node one
-  by None ordered = none_some one (sym (data_is msg node demand None stands ordered) ∙ done)
+  by None ordered = none_some one (sym (data_done node msg.words demand None stands ordered) ∙ done)
   by (Some place) ordered = record {
     kind = kind;
     demand = demand;
     place = place;
     stands = stands;
     ordered = ordered;
-    done = same_Some one (done_by demand.pending (place + 1) msg.words) (sym done ∙ data_is msg node demand (Some place) stands ordered
+    done = same_Some one (done_by demand.pending (place + 1) msg.words) (sym done ∙ data_done node msg.words demand (Some place) stands ordered
         ∙ completed_done node.chip demand place msg.words node.side);
   }
 

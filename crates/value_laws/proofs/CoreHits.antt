@@ -1,31 +1,27 @@
 -- A core event that performs an access: it hits, or reads a store that the core has still to make. All values stay.
-use Rattle.std.proofs.Common.{◌≡◌, ℕ, Bool, true, false, ◌&&◌, ◌==◌, Option, Some, None, List, [], ◌∷◌, ◌++◌, sym, ap, ◌∙◌, refl, subst, inl, inr}
-use Rattle.std.specs.Prelude.{slice_get, nat_le, IfSome}
+use Rattle.std.proofs.Common.{◌≡◌, ℕ, Bool, false, ◌&&◌, ◌==◌, Option, Some, None, List, [], ◌∷◌, ◌++◌, sym, ap, ◌∙◌, refl, subst, inl, inr}
+use Rattle.std.specs.Prelude.{nat_le, IfSome}
 use Rattle.std.specs.List.{AllByRecursion}
-use Rattle.std.proofs.lemmas.Bool.{false_from_ne_true, and_parts, false≢true}
 use Rattle.std.proofs.lemmas.Option.{same_Some}
 use Rattle.report_text.specs.declared.access.Access.{Access}
 use Rattle.report_text.specs.Accesses.{writes}
 use Rattle.doc_text.specs.Doc.{Doc}
 use Rattle.chip_model.specs.declared.done.Done.{Done}
-use Rattle.chip_model.specs.declared.pending.Pending.{Pending}
 use Rattle.chip_model.specs.Chip.{line_of}
 use Rattle.chip_model.specs.Snoop.{done_by}
-use Rattle.chip_model.specs.Node.{Node, Performed}
 use Rattle.chip_model.specs.Units.{UnitState, Acted, Behaviour}
 use Rattle.chip_model.specs.ChipState.{ChipState}
 use Rattle.chip_model.specs.BehaviourLaws.{numbered, IsOfCore, Answers, WorksAlone, TriesAccess, Works, KeepsLaws}
-use Rattle.chip_model.specs.Witness.{is_write, writes_by, line_value}
+use Rattle.chip_model.specs.Witness.{line_value}
 use Rattle.chip_model.specs.Values.{MessageHasValue, ValuesHold}
 use Rattle.vc_bank.specs.Places.{Network, at as stands_at}
 use Rattle.mesh_gen.specs.declared.msg.Msg.{Msg}
-use Rattle.chip_laws.specs.EventSteps.{ChangesUnit, CoreWorks}
+use Rattle.chip_laws.specs.EventSteps.{ChangesUnit}
 use Rattle.chip_laws.specs.Meetings.{UnitsFit}
 use Rattle.chip_laws.proofs.Options.{none_some}
 use Rattle.value_laws.specs.Sequences.{Follows, AreRising}
 use Rattle.value_laws.proofs.LineValues.{value_kept}
-use Rattle.value_laws.proofs.SettledSteps.{OrdersNothing, now}
-use Rattle.value_laws.proofs.StepValues.{KeepsSettled}
+use Rattle.value_laws.proofs.SettledSteps.{OrdersNothing}
 use Rattle.value_laws.proofs.NodeEvents.{one_noted}
 use Rattle.value_laws.proofs.EventValues.{AccessesKeepValues}
 use Rattle.value_laws.proofs.QuietValues.{node_kept_values}

@@ -1,9 +1,7 @@
 -- Every event keeps what reads received, where a core event that answers an access tries it at the node.
-use Rattle.std.proofs.Common.{◌≡◌, ◌≢◌, ℕ, ◌+◌, ◌*◌, ◌/◌, ◌<◌, Bool, true, false, Option, Some, None, List, [], ◌∷◌, ◌++◌, sym, ap, ◌∙◌, refl, subst, inl, inr, arith}
+use Rattle.std.proofs.Common.{◌≡◌, ℕ, ◌<◌, Option, Some, None, [], ◌∷◌, ◌++◌, sym, ap, ◌∙◌, refl, subst, inl, inr, arith}
 use Rattle.std.specs.Prelude.{slice_get}
 use Rattle.std.specs.List.{AllByRecursion}
-use Rattle.mesh_gen.specs.declared.kind.Kind.{Kind}
-use Rattle.mesh_gen.specs.declared.kind.Kind.TheVariants.{GetS, GetM, PutM}
 use Rattle.mesh_gen.specs.declared.msg.Msg.{Msg}
 use Rattle.mesh_gen.specs.declared.msg_kind.MsgKind.{MsgKind}
 use Rattle.mesh_gen.specs.declared.msg_kind.MsgKind.TheVariants.{Data, Back}
@@ -17,13 +15,10 @@ use Rattle.doc_text.specs.Doc.{Doc}
 use Rattle.chip_model.specs.declared.done.Done.{Done}
 use Rattle.chip_model.specs.Chip.{Chip, chip_of, line_of}
 use Rattle.chip_model.specs.OrderedNetwork.{OrderedNetwork, after_network_tick}
-use Rattle.chip_model.specs.Misses.{Demand}
-use Rattle.chip_model.specs.Snoop.{Outcome, done_by, words_here, ordered_with, own_get, own_request, data_at}
-use Rattle.chip_model.specs.Node.{Node, Performed, node_after_request, node_after_message, arrived_as, words_arrived, after_request_sent, after_message_sent}
+use Rattle.chip_model.specs.Node.{Node, node_after_request, node_after_message, arrived_as, after_request_sent, after_message_sent}
 use Rattle.chip_model.specs.Units.{UnitState, Acted, Behaviour}
 use Rattle.chip_model.specs.ChipState.{ChipState}
 use Rattle.chip_model.specs.BehaviourLaws.{numbered, GoesOn, TriesAccess, Works, KeepsLaws}
-use Rattle.chip_model.specs.Bookkeeping.{is_get}
 use Rattle.chip_model.specs.Cache.{lookup}
 use Rattle.chip_model.specs.NodeShape.{IsCache, is_modified}
 use Rattle.chip_model.specs.Values.{AnswersGet, MessageHasValue, ValuesHold}
@@ -34,7 +29,6 @@ use Rattle.snoop_core.proofs.Accesses.{accessed_frame}
 use Rattle.chip_laws.specs.DocLaws.{DocLaws}
 use Rattle.chip_laws.specs.EventSteps.{ChangesNetwork, ChangesUnit, CoreWorks, RequestComes, MessageComes, EventDoes}
 use Rattle.chip_laws.specs.MessageLaws.{MessageLaws}
-use Rattle.chip_laws.specs.Meetings.{UnitsFit}
 use Rattle.chip_laws.proofs.Deliveries.{deliveries_fit}
 use Rattle.chip_laws.proofs.OrderFrames.{IsNext}
 use Rattle.chip_laws.proofs.OrderGrows.{injected_order, delivered_order}
@@ -49,7 +43,7 @@ use Rattle.supply_laws.proofs.Ticked.{ticked}
 use Rattle.value_laws.specs.Sequences.{Follows, AreRising}
 use Rattle.value_laws.specs.Reads.{ReadsHold}
 use Rattle.value_laws.proofs.SettledSteps.{OrdersNothing}
-use Rattle.value_laws.proofs.StepValues.{KeepsSettled, quiet_keeps}
+use Rattle.value_laws.proofs.StepValues.{quiet_keeps}
 use Rattle.value_laws.proofs.Completion.{CompletesBy, at_line}
 use Rattle.value_laws.proofs.CompletedAccesses.{request_completes, message_completes}
 use Rattle.value_laws.proofs.CoreHits.{rising_before, last_follows, hits}

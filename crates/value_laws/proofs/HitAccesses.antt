@@ -1,34 +1,32 @@
 -- An access that hits: it is served by the copy of its line, and stands on the value of the line at the node's count.
-use Rattle.std.proofs.Common.{◌≡◌, ℕ, ◌<◌, Bool, true, false, cond, Option, Some, None, sym, ap, ◌∙◌, refl, subst, inl, inr, ◌⊎◌, List, take, arith}
-use Rattle.std.specs.Prelude.{slice_get, not, is_some}
+use Rattle.std.proofs.Common.{◌≡◌, ℕ, ◌<◌, Bool, true, false, cond, Option, Some, None, sym, ap, ◌∙◌, refl, subst, inl, inr, ◌⊎◌, take, arith}
+use Rattle.std.specs.Prelude.{slice_get, not}
 use Rattle.std.specs.List.{AllByRecursion}
 use Rattle.std.proofs.lemmas.Option.{same_Some}
 use Rattle.report_text.specs.declared.access.Access.{Access}
-use Rattle.report_text.specs.Accesses.{reads, writes}
+use Rattle.report_text.specs.Accesses.{writes}
 use Rattle.doc_text.specs.Doc.{Doc}
 use Rattle.chip_model.specs.declared.done.Done.{Done}
 use Rattle.chip_model.specs.declared.pending.Pending.{Pending}
 use Rattle.chip_model.specs.declared.line_state.State.{State}
 use Rattle.chip_model.specs.declared.line_state.State.TheVariants.{M, O, S}
 use Rattle.chip_model.specs.declared.owner.Owner.{Owner}
-use Rattle.chip_model.specs.declared.owner.Owner.TheVariants.{Memory, Tile}
+use Rattle.chip_model.specs.declared.owner.Owner.TheVariants.{Tile}
 use Rattle.chip_model.specs.Chip.{line_of}
 use Rattle.chip_model.specs.Cache.{Held, lookup}
-use Rattle.chip_model.specs.Misses.{Demand}
 use Rattle.chip_model.specs.Snoop.{done_by}
 use Rattle.chip_model.specs.Node.{Node, Performed, has_entry, load_hit, store_hit, store_to, missed, unless_written_back, demand_started, accessed_with, node_after_access}
 use Rattle.chip_model.specs.Units.{UnitState}
 use Rattle.chip_model.specs.ChipState.{ChipState}
 use Rattle.chip_model.specs.BehaviourLaws.{numbered}
 use Rattle.chip_model.specs.NodeShape.{is_modified}
-use Rattle.chip_model.specs.Ownership.{writer, delivered_to}
+use Rattle.chip_model.specs.Ownership.{writer}
 use Rattle.chip_model.specs.Witness.{is_before, is_write, line_value}
 use Rattle.chip_model.specs.Writers.{writer_for_state, IsSettled, OthersSettled}
 use Rattle.chip_model.specs.Values.{CopyHasValue, place_of_shared, ValuesHold}
 use Rattle.chip_model.specs.ChipInvariant.{ProtocolHolds}
 use Rattle.chip_laws.proofs.Each.{each_at, each_from}
 use Rattle.chip_laws.proofs.Options.{none_some, when_some}
-use Rattle.chip_laws.proofs.StepAccesses.{access_goes}
 use Rattle.chip_laws.proofs.SuppliedEvents.{unit_holds}
 use Rattle.snoop_core.proofs.Accesses.{accessed_free}
 use Rattle.value_laws.specs.Sequences.{Follows}

@@ -1,9 +1,8 @@
 -- An access that hits keeps all values: a write's copy has the line's value with the word changed.
-use Rattle.std.proofs.Common.{◌≡◌, ◌≢◌, ℕ, ◌<◌, ◌≤◌, ◌+◌, Bool, true, false, cond, ◌==◌, ◌&&◌, Option, Some, None, List, [], ◌∷◌, ◌++◌, take, sym, ap, ◌∙◌, refl, subst, inl, inr, ◌⊎◌, eq-eqb, eqb-true, arith}
+use Rattle.std.proofs.Common.{◌≡◌, ◌≢◌, ℕ, ◌<◌, ◌≤◌, Bool, true, false, ◌==◌, ◌&&◌, Option, Some, None, List, [], ◌∷◌, ◌++◌, sym, ap, ◌∙◌, refl, subst, inl, inr, ◌⊎◌, eq-eqb, eqb-true, arith}
 use Rattle.std.specs.Prelude.{nat_le, slice_get, slice_index_or, is_some, if◌then◌else◌}
 use Rattle.std.specs.List.{AllByRecursion}
-use Rattle.std.proofs.lemmas.Bool.{cases_eq, cases_order, false≢true, false_from_ne_true, and_parts, and_from, leb-true, le-leb}
-use Rattle.std.proofs.lemmas.Bool.Decides.{nat_tests}
+use Rattle.std.proofs.lemmas.Bool.{false≢true, false_from_ne_true, and_parts, and_from, leb-true, le-leb}
 use Rattle.std.proofs.lemmas.Option.{same_Some}
 use Rattle.mesh_gen.specs.declared.msg.Msg.{Msg}
 use Rattle.vc_bank.specs.Places.{Network, at as stands_at}
@@ -12,19 +11,19 @@ use Rattle.report_text.specs.Accesses.{writes}
 use Rattle.doc_text.specs.Doc.{Doc}
 use Rattle.chip_model.specs.declared.pending.Pending.{Pending}
 use Rattle.chip_model.specs.declared.line_state.State.{State}
-use Rattle.chip_model.specs.declared.line_state.State.TheVariants.{M, O, S}
+use Rattle.chip_model.specs.declared.line_state.State.TheVariants.{M}
 use Rattle.chip_model.specs.Chip.{Chip, line_of}
 use Rattle.chip_model.specs.Cache.{Cache, Held, lookup, installed}
 use Rattle.chip_model.specs.Misses.{Misses}
-use Rattle.chip_model.specs.Snoop.{with_cache, written_by, done_by}
-use Rattle.chip_model.specs.Node.{Node, Performed, with_side, store_hit}
+use Rattle.chip_model.specs.Snoop.{written_by, done_by}
+use Rattle.chip_model.specs.Node.{Node, Performed, store_hit}
 use Rattle.chip_model.specs.Units.{UnitState}
 use Rattle.chip_model.specs.ChipState.{ChipState}
 use Rattle.chip_model.specs.BehaviourLaws.{numbered}
-use Rattle.chip_model.specs.NodeShape.{is_modified, is_modified_state}
-use Rattle.chip_model.specs.Witness.{is_before, is_write, writes_by, with_write, line_value}
+use Rattle.chip_model.specs.NodeShape.{is_modified}
+use Rattle.chip_model.specs.Witness.{is_write, writes_by, with_write, line_value}
 use Rattle.chip_model.specs.Writers.{IsSettled}
-use Rattle.chip_model.specs.Values.{HasValue, HasOwnValue, CopyHasValue, place_of_shared, MessageHasValue, NodeHasValues, ValuesHold}
+use Rattle.chip_model.specs.Values.{HasValue, HasOwnValue, CopyHasValue, place_of_shared, NodeHasValues, ValuesHold}
 use Rattle.snoop_core.proofs.CacheMaps.{lookup-line, lookup-installed, fits_held}
 use Rattle.chip_laws.specs.EventSteps.{ChangesUnit}
 use Rattle.chip_laws.proofs.Each.{each_at, each_from}
@@ -34,8 +33,8 @@ use Rattle.value_laws.specs.Sequences.{Follows, AreRising}
 use Rattle.value_laws.proofs.LineValues.{value_kept, value_written}
 use Rattle.value_laws.proofs.SettledSteps.{OrdersNothing, now, settled_on, settled_still}
 use Rattle.value_laws.proofs.StepValues.{KeepsSettled, value_on, itself_copy_on, message_on, early_on, record_on, values_on}
-use Rattle.value_laws.proofs.Acting.{ActsOn, before_time}
-use Rattle.value_laws.proofs.HitAccesses.{Hit, modified_copy, hit_access, hit_acts}
+use Rattle.value_laws.proofs.Acting.{ActsOn}
+use Rattle.value_laws.proofs.HitAccesses.{Hit, modified_copy, hit_acts}
 
 -- the only copy of a line comes in for another one of it: no other copy changes
 lookup_written : (chip : Chip) (cache : Cache) (held : Held) (words : List ℕ) (line m : ℕ) → lookup chip cache line ≡ Some held

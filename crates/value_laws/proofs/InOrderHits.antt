@@ -1,8 +1,8 @@
 -- An in-order core that answers an access has tried it at its node.
-use Rattle.std.proofs.Common.{◌≡◌, ℕ, ◌*◌, ◌%◌, ◌<◌, Bool, true, false, Option, Some, None, sym, ap, ◌∙◌, refl, subst, inl, inr, arith}
-use Rattle.std.specs.Prelude.{◌||◌, not, is_some, option_map, unwrap_or, slice_get, IfSome}
+use Rattle.std.proofs.Common.{◌≡◌, ℕ, ◌*◌, ◌%◌, ◌<◌, true, false, Option, Some, None, sym, ap, ◌∙◌, refl, subst, inl, inr, arith}
+use Rattle.std.specs.Prelude.{◌||◌, not, unwrap_or, IfSome}
 use Rattle.std.proofs.lemmas.Option.{same_Some}
-use Rattle.core_isa.specs.Core.{CoreState, Effect, Becomes, Loads, Stores, Swaps, Adds, Halts, effect_of, instr_at}
+use Rattle.core_isa.specs.Core.{Effect, Becomes, Loads, Stores, Swaps, Adds, Halts, effect_of, instr_at}
 use Rattle.report_text.specs.declared.access.Access.{Access}
 use Rattle.report_text.specs.declared.access.AccessKind.{AccessKind}
 use Rattle.report_text.specs.declared.access.AccessKind.TheVariants.{Load, Store, Swap, Add}

@@ -51,3 +51,4 @@ pub mod CompletedAccesses
 pub mod EventReads
 pub mod InOrderHits
 pub mod ReachedValues
+pub mod DoneAccesses

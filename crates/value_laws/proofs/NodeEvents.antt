@@ -1,11 +1,10 @@
 -- The events of a tile's node: a core event that performs no access, the delivery of a request, and a message that comes. Each
 -- keeps all values.
-use Rattle.std.proofs.Common.{◌≡◌, ◌≢◌, ℕ, ◌+◌, Bool, true, cond, refl, sym, ◌∙◌, ap, subst, inl, inr, Option, Some, None, List, [], ◌∷◌, ◌++◌}
+use Rattle.std.proofs.Common.{◌≡◌, ℕ, ◌+◌, true, refl, sym, ◌∙◌, ap, subst, inl, inr, Option, Some, None, List, [], ◌∷◌, ◌++◌}
 use Rattle.std.specs.Prelude.{slice_get}
-use Rattle.std.proofs.lemmas.Bool.{cond_both, cases_eq, eq-eqb, ne_eqb}
+use Rattle.std.proofs.lemmas.Bool.{cases_eq}
 use Rattle.mesh_gen.specs.declared.kind.Kind.{Kind}
 use Rattle.mesh_gen.specs.declared.kind.Kind.TheVariants.{GetS, GetM, PutM}
-use Rattle.mesh_gen.specs.declared.request.Request.{Request}
 use Rattle.mesh_gen.specs.declared.msg.Msg.{Msg}
 use Rattle.mesh_gen.specs.declared.msg_kind.MsgKind.{MsgKind}
 use Rattle.mesh_gen.specs.declared.msg_kind.MsgKind.TheVariants.{Data, Back}
@@ -15,11 +14,10 @@ use Rattle.vc_bank.specs.Places.{Network, at as stands_at}
 use Rattle.report_text.specs.declared.access.Access.{Access}
 use Rattle.doc_text.specs.Doc.{Doc}
 use Rattle.chip_model.specs.declared.done.Done.{Done}
-use Rattle.chip_model.specs.Chip.{Chip, chip_of}
-use Rattle.chip_model.specs.Misses.{Demand, is_getm}
-use Rattle.chip_model.specs.Snoop.{CacheSide, Outcome, completed, completed_load, completed_store, done_by, words_here, ordered_with, own_get, own_put, own_request, holding, snooped_with, after_snoop}
-use Rattle.chip_model.specs.Snoop.{data_for, data_at, after_data}
-use Rattle.chip_model.specs.Node.{Node, Performed, node_after_request, node_after_message, arrived_as, words_arrived}
+use Rattle.chip_model.specs.Chip.{chip_of}
+use Rattle.chip_model.specs.Misses.{Demand}
+use Rattle.chip_model.specs.Snoop.{done_by, words_here, ordered_with, own_request}
+use Rattle.chip_model.specs.Node.{Performed, node_after_request, node_after_message, arrived_as, words_arrived}
 use Rattle.chip_model.specs.Units.{UnitState, Behaviour, Acted}
 use Rattle.chip_model.specs.ChipState.{ChipState}
 use Rattle.chip_model.specs.Events.{with_access}
@@ -27,7 +25,6 @@ use Rattle.chip_model.specs.BehaviourLaws.{KeepsLaws, Answers, numbered, Works, 
 use Rattle.chip_model.specs.Bookkeeping.{is_get}
 use Rattle.chip_model.specs.Values.{AnswersGet, MessageHasValue, ValuesHold}
 use Rattle.snoop_core.specs.Requests.{MeetsDemand, MeetsOwn, OwnRequestFits}
-use Rattle.snoop_core.proofs.OwnSteps.{met_done}
 use Rattle.reply_net.proofs.Accounts.{IsReceived, received_is}
 use Rattle.chip_laws.specs.DocLaws.{DocLaws}
 use Rattle.chip_laws.specs.EventSteps.{ChangesUnit, CoreWorks, RequestComes, MessageComes}
@@ -45,7 +42,7 @@ use Rattle.value_laws.proofs.GrownValues.{carried_due}
 use Rattle.value_laws.proofs.MissValues.{miss_values}
 use Rattle.value_laws.proofs.OrderedGetValues.{ordered_get_values}
 use Rattle.value_laws.proofs.OwnCompletedValues.{own_completed_values}
-use Rattle.value_laws.proofs.OwnDeliveries.{get_request}
+use Rattle.value_laws.proofs.DoneAccesses.{completed_done, own_done, get_done, put_done, other_done, data_done}
 use Rattle.value_laws.proofs.StayedValues.{same_values}
 use Rattle.value_laws.proofs.QuietValues.{node_kept_values}
 use Rattle.value_laws.proofs.ReturnedValues.{returned_values}
@@ -97,26 +94,6 @@ core_values b laws d s new e values fit t does none =
     (laws.stepped does.unit (fit t does.unit does.changes.at) does.ready).1
 
 -- ---- the delivery of a request
--- of the tile's own
-pub own_done : (q : Request) (node : Node) → q.source ≡ node.tile → (node_after_request q node).1 ≡ (own_request node.chip node.side node.delivered q.kind).done
-unfolding node_after_request after_snoop
-own_done q node source =
-    ap (λ (b : Bool). (cond b (own_request node.chip node.side node.delivered q.kind)
-    (snooped_with node.chip q node.side (holding node.chip node.side q.line) q.kind)).done)
-    (eq-eqb q.source node.tile source)
-
-pub completed_done : (chip : Chip) (demand : Demand) (place : ℕ) (words : List ℕ) (side : CacheSide)
-    → (completed chip demand place words side).done ≡ Some (done_by demand.pending (place + 1) words)
-completed_done chip demand place words side =
-    cond_both (is_getm demand.kind) (completed_store chip demand place words side) (completed_load chip demand place words side)
-    (λ outcome. outcome.done ≡ Some (done_by demand.pending (place + 1) words)) (λ writes. refl) (λ reads. refl)
-
-pub put_done : (node : Node) → (own_request node.chip node.side node.delivered PutM).done ≡ None
-put_done node = by node.side.misses.back where
-  by : (entry : Option _) → (own_put node.chip node.side entry).done ≡ None
-  by None = refl
-  by (Some back) = refl
-
 module _ (b : Behaviour) (laws : KeepsLaws b) (d : Doc) (s new : ChipState) (e : OrdersNothing d s new) (values : ValuesHold d s) (fit : UnitsFit b laws s)
     (fits : DocLaws d)
     (rising : AreRising s.accesses) (t : ℕ) (does : RequestComes b (chip_of d) s new t) (source : does.request.source ≡ does.unit.node.tile) where
@@ -142,18 +119,11 @@ module _ (b : Behaviour) (laws : KeepsLaws b) (d : Doc) (s new : ChipState) (e :
 
   get_delivered : is_get does.request.kind ≡ true → MeetsDemand does.unit.node.side does.request → ValuesHold d new
   get_delivered asks (demand, stands, is_for) = by (words_here does.unit.node.chip does.unit.node.side demand demand.early) refl where
-    done_is : (node_after_request does.request does.unit.node).1
-        ≡ (ordered_with does.unit.node.chip does.unit.node.side does.unit.node.delivered demand
-        (words_here does.unit.node.chip does.unit.node.side demand demand.early)).done
-    done_is =
-        own_done does.request does.unit.node source
-        ∙ ap (λ (o : Outcome). o.done) (get_request does.unit.node.chip does.unit.node.side does.unit.node.delivered does.request.kind asks)
-        ∙ ap (λ (o : Option Demand). (own_get does.unit.node.chip does.unit.node.side does.unit.node.delivered o).done) stands
-
     by : (words : Option (List ℕ)) → words_here does.unit.node.chip does.unit.node.side demand demand.early ≡ words → ValuesHold d new
     by None here =
         let nothing =
-        done_is ∙ ap (λ (o : Option (List ℕ)). (ordered_with does.unit.node.chip does.unit.node.side does.unit.node.delivered demand o).done) here in
+        get_done does.request does.unit.node demand source asks stands
+        ∙ ap (λ (o : Option (List ℕ)). (ordered_with does.unit.node.chip does.unit.node.side does.unit.node.delivered demand o).done) here in
         ordered_get_values d s new e values fits t does.unit
         (b.delivered does.request does.unit).0 does.changes does.request next source asks demand stands is_for.unordered here goes.node
         (none_noted s new (b.delivered does.request does.unit).1 does.accesses
@@ -162,7 +132,7 @@ module _ (b : Behaviour) (laws : KeepsLaws b) (d : Doc) (s new : ChipState) (e :
     by (Some words) here =
         let done = done_by demand.pending (does.unit.node.delivered + 1) words in
         let is : (node_after_request does.request does.unit.node).1 ≡ Some (done_by demand.pending (does.unit.node.delivered + 1) words) =
-        done_is
+        get_done does.request does.unit.node demand source asks stands
         ∙ ap (λ (o : Option (List ℕ)). (ordered_with does.unit.node.chip does.unit.node.side does.unit.node.delivered demand o).done) here
         ∙ completed_done does.unit.node.chip demand does.unit.node.delivered words does.unit.node.side in
         let (number, answer) =
@@ -179,15 +149,6 @@ module _ (b : Behaviour) (laws : KeepsLaws b) (d : Doc) (s new : ChipState) (e :
 
   own_request_values : ValuesHold d new
   own_request_values = by_kind does.request.kind refl (own source)
-
--- of another tile: no access is performed
-pub other_done : (q : Request) (node : Node) → q.source ≢ node.tile → (node_after_request q node).1 ≡ None
-unfolding node_after_request after_snoop
-other_done q node away =
-    ap (λ (b : Bool). (cond b (own_request node.chip node.side node.delivered q.kind)
-    (snooped_with node.chip q node.side (holding node.chip node.side q.line) q.kind)).done)
-    (ne_eqb q.source node.tile away)
-    ∙ met_done q (record { chip = node.chip; side = node.side })
 
 pub request_values : (b : Behaviour) (laws : KeepsLaws b) (d : Doc) (s new : ChipState) → OrdersNothing d s new → ValuesHold d s → UnitsFit b laws s
     → DocLaws d → AreRising s.accesses
@@ -234,14 +195,6 @@ module _ (b : Behaviour) (laws : KeepsLaws b) (d : Doc) (s new : ChipState) (e :
       (no_answer does.unit (b.received does.msg does.unit).0 (node_after_message does.msg does.unit.node).1 (b.received does.msg does.unit).1
       (ap (λ (p : Performed). p.1) shown) reacts.answers)) left
 
-  -- data: what it performs, by the place of the demand
-  data_done : (demand : Demand) (place : Option ℕ) → does.unit.node.side.misses.demand ≡ Some demand → demand.ordered ≡ place
-      → (words_arrived does.unit.node does.msg.words).1 ≡ (data_at does.unit.node.chip does.unit.node.side does.msg.words demand place).done
-  unfolding after_data
-  data_done demand place stands ordered =
-      ap (λ (o : Option Demand). (data_for does.unit.node.chip does.unit.node.side does.msg.words o).done) stands
-      ∙ ap (λ (o : Option ℕ). (data_at does.unit.node.chip does.unit.node.side does.msg.words demand o).done) ordered
-
   answers : does.msg.kind ≡ Data → AnswersGet d s does.unit.node does.msg.line does.msg.words
   answers kind = (subst (MessageHasValue d s does.msg) kind carried) does.unit (ap (slice_get s.units) received.here ∙ does.changes.at)
 
@@ -251,7 +204,7 @@ module _ (b : Behaviour) (laws : KeepsLaws b) (d : Doc) (s new : ChipState) (e :
   ordered_data rising kind demand place stands ordered =
       let shown : node_after_message does.msg does.unit.node ≡ words_arrived does.unit.node does.msg.words = message_as Data kind in
       let done : (node_after_message does.msg does.unit.node).1 ≡ Some (done_by demand.pending (place + 1) does.msg.words) =
-      ap (λ (p : Performed). p.1) shown ∙ data_done demand (Some place) stands ordered
+      ap (λ (p : Performed). p.1) shown ∙ data_done does.unit.node does.msg.words demand (Some place) stands ordered
       ∙ completed_done does.unit.node.chip demand place does.msg.words does.unit.node.side in
       let (number, answer) =
       some_answer does.unit (b.received does.msg does.unit).0 (node_after_message does.msg does.unit.node).1 (b.received does.msg does.unit).1
@@ -267,7 +220,7 @@ module _ (b : Behaviour) (laws : KeepsLaws b) (d : Doc) (s new : ChipState) (e :
       → demand.ordered ≡ None → ValuesHold d new
   early_data kind demand stands line unordered =
       let done : (node_after_message does.msg does.unit.node).1 ≡ None =
-      ap (λ (p : Performed). p.1) (message_as Data kind) ∙ data_done demand None stands unordered in
+      ap (λ (p : Performed). p.1) (message_as Data kind) ∙ data_done does.unit.node does.msg.words demand None stands unordered in
       early_values d s new e values t does.unit (b.received does.msg does.unit).0 does.changes does.msg demand kind stands unordered
       (subst (λ (l : ℕ). AnswersGet d s does.unit.node l does.msg.words) line (answers kind)) reacts.node
       (none_noted s new (b.received does.msg does.unit).1 does.accesses

@@ -1,6 +1,6 @@
 -- Events that leave copies and records as they are keep all values: those of the networks alone, requests and messages that
 -- enter them, and core events that leave the node.
-use Rattle.std.proofs.Common.{◌≡◌, ℕ, ◌+◌, ◌<◌, zero, suc, true, Bool, Option, Some, None, List, [], ◌∷◌, drop, set, refl, sym, ◌∙◌, ap, subst, arith}
+use Rattle.std.proofs.Common.{◌≡◌, ℕ, ◌+◌, zero, suc, true, Bool, Option, Some, None, List, [], ◌∷◌, drop, set, refl, sym, ◌∙◌, ap, subst, arith}
 use Rattle.std.specs.Prelude.{slice_get, if◌then◌else◌}
 use Rattle.std.proofs.lemmas.Option.{same_Some}
 use Rattle.mesh_gen.specs.declared.msg.Msg.{Msg}
@@ -13,16 +13,14 @@ use Rattle.chip_model.specs.Units.{UnitState}
 use Rattle.chip_model.specs.ChipState.{ChipState}
 use Rattle.chip_model.specs.Witness.{line_value}
 use Rattle.chip_model.specs.Writers.{is_ordered_write}
-use Rattle.chip_model.specs.Values.{place_of_demand, place_of_shared, AnswersGet, MessageHasValue, ValuesHold}
+use Rattle.chip_model.specs.Values.{place_of_demand, AnswersGet, MessageHasValue, ValuesHold}
 use Rattle.snoop_core.proofs.Sending.{sent_forms}
 use Rattle.chip_laws.specs.EventSteps.{ChangesUnit}
 use Rattle.chip_laws.proofs.Options.{none_some}
-use Rattle.chip_laws.proofs.RequestsInside.{tile_of}
-use Rattle.chip_laws.specs.DocFits.{DocFits}
 use Rattle.supply_laws.proofs.Carried.{sent_stands}
 use Rattle.value_laws.proofs.SettledSteps.{OrdersNothing, now}
 use Rattle.value_laws.proofs.StepValues.{early_on}
-use Rattle.value_laws.proofs.StayedValues.{BackStood, NodeStays, node_same, HasSent, stays_settled, stayed_values, same_values}
+use Rattle.value_laws.proofs.StayedValues.{NodeStays, node_same, stays_settled, stayed_values, same_values}
 
 -- ---- the node is as it was
 

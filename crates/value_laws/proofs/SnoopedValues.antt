@@ -1,9 +1,8 @@
 -- A tile delivers the request of another tile: its copies keep their values, and the words that it sends answer the request.
-use Rattle.std.proofs.Common.{◌≡◌, ◌≢◌, ℕ, ◌+◌, ◌<◌, ◌≤◌, Bool, true, false, cond, ◌==◌, Option, Some, None, List, ◌++◌, take, is_some, sym, ap, ◌∙◌, refl, subst, inl, inr, ◌⊎◌, arith}
-use Rattle.std.specs.Prelude.{slice_get, slice_index_or, not, ◌||◌}
-use Rattle.std.proofs.lemmas.Bool.{false≢true, true≢false, both_ways, eq-eqb}
+use Rattle.std.proofs.Common.{◌≡◌, ◌≢◌, ℕ, ◌+◌, Bool, true, false, cond, ◌==◌, Option, Some, None, List, ◌++◌, take, is_some, sym, ap, ◌∙◌, refl, subst, inl, inr, ◌⊎◌, arith}
+use Rattle.std.specs.Prelude.{slice_get, not, ◌||◌}
+use Rattle.std.proofs.lemmas.Bool.{false≢true, true≢false}
 use Rattle.std.proofs.lemmas.Bool.Decides.{nat_tests}
-use Rattle.std.proofs.lemmas.Option.{same_Some, slice_get_within}
 use Rattle.mesh_gen.specs.declared.request.Request.{Request}
 use Rattle.mesh_gen.specs.declared.kind.Kind.TheVariants.{GetS}
 use Rattle.mesh_gen.specs.declared.msg.Msg.{Msg}
@@ -13,11 +12,10 @@ use Rattle.report_text.specs.declared.access.Access.{Access}
 use Rattle.doc_text.specs.Doc.{Doc}
 use Rattle.chip_model.specs.declared.line_state.State.{State}
 use Rattle.chip_model.specs.declared.line_state.State.TheVariants.{M, O, S}
-use Rattle.chip_model.specs.declared.owner.Owner.{Owner}
 use Rattle.chip_model.specs.declared.owner.Owner.TheVariants.{Memory, Tile}
 use Rattle.chip_model.specs.Chip.{Chip, chip_of}
 use Rattle.chip_model.specs.Cache.{Held, is_shared, lookup}
-use Rattle.chip_model.specs.Misses.{Demand, WriteBack}
+use Rattle.chip_model.specs.Misses.{Demand}
 use Rattle.chip_model.specs.Snoop.{CacheSide, Outcome, holding, snooped_with, data_to, own_request, after_snoop}
 use Rattle.chip_model.specs.Records.{answered}
 use Rattle.chip_model.specs.Node.{Node, node_after_request}
@@ -29,10 +27,9 @@ use Rattle.chip_model.specs.Bookkeeping.{is_get}
 use Rattle.chip_model.specs.Suppliers.{supplier}
 use Rattle.chip_model.specs.Witness.{line_value}
 use Rattle.chip_model.specs.Writers.{is_ordered_write, IsSettled}
-use Rattle.chip_model.specs.Values.{HasValue, HasOwnValue, CopyHasValue, place_of_demand, place_of_shared, AnswersGet, MessageHasValue, NodeHasValues, ValuesHold}
+use Rattle.chip_model.specs.Values.{HasValue, HasOwnValue, CopyHasValue, place_of_demand, AnswersGet, MessageHasValue, NodeHasValues, ValuesHold}
 use Rattle.chip_laws.specs.EventSteps.{ChangesUnit}
 use Rattle.chip_laws.specs.DocLaws.{DocLaws}
-use Rattle.chip_laws.proofs.Options.{none_some}
 use Rattle.chip_laws.proofs.OwnerFolds.{writer_of_kind}
 use Rattle.chip_laws.proofs.SuppliedEvents.{unit_holds}
 use Rattle.chip_laws.proofs.UnitFrames.{other_unit}
@@ -44,7 +41,7 @@ use Rattle.value_laws.proofs.StepValues.{KeepsSettled, quiet_keeps, value_on, it
 use Rattle.value_laws.proofs.NextValues.{KeepsShared, same_shared, copy_next, back_next, back_owned}
 use Rattle.value_laws.proofs.AnsweredValues.{records_next, supplied_open, home_sends}
 use Rattle.value_laws.proofs.OwnDeliveries.{delivered_node, of_append}
-use Rattle.value_laws.proofs.Snooping.{DemandStays, BecomesOwned, OfCopy, OfBack, SendsWords, Snooped, snooped_side}
+use Rattle.value_laws.proofs.Snooping.{DemandStays, BecomesOwned, OfCopy, OfBack, Snooped, snooped_side}
 
 -- the node after its cache side met the request of another tile
 pub other_node : (q : Request) (node : Node) → q.source ≢ node.tile

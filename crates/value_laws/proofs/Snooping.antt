@@ -1,5 +1,5 @@
 -- What the request of another tile leaves of the cache side of a node, and whose words it sends.
-use Rattle.std.proofs.Common.{◌≡◌, ◌≢◌, ℕ, zero, suc, Bool, true, false, ◌==◌, ◌&&◌, Option, Some, None, List, [], ◌∷◌, ◌++◌, is_some, eq-eqb, sym, ap, ◌∙◌, refl, subst, inl, inr, ◌⊎◌, arith}
+use Rattle.std.proofs.Common.{◌≡◌, ℕ, zero, suc, Bool, true, false, ◌==◌, Option, Some, None, List, [], ◌∷◌, ◌++◌, is_some, eq-eqb, sym, ap, ◌∙◌, refl, subst, inl, inr, ◌⊎◌, arith}
 use Rattle.std.specs.Prelude.{if◌then◌else◌, slice_get}
 use Rattle.std.proofs.lemmas.Bool.{false≢true}
 use Rattle.std.proofs.lemmas.Bool.Decides.{nat_tests}
@@ -11,11 +11,10 @@ use Rattle.mesh_gen.specs.declared.msg.Msg.{Msg}
 use Rattle.chip_model.specs.declared.line_state.State.TheVariants.{O}
 use Rattle.chip_model.specs.Chip.{Chip}
 use Rattle.chip_model.specs.Cache.{Cache, Held, is_shared, lookup, installed, without_line}
-use Rattle.chip_model.specs.Misses.{Demand, WriteBack, is_getm}
-use Rattle.chip_model.specs.Snoop.{CacheSide, Outcome, quiet, supplies, with_cache, with_demand, with_back, stale_back, made_stale, line_gone, made_owned, deferred_to_demand, serves_once, Holding, holding, live_for, ordered_for, snooped_with, data_to}
+use Rattle.chip_model.specs.Misses.{Demand, WriteBack}
+use Rattle.chip_model.specs.Snoop.{CacheSide, Outcome, quiet, with_cache, with_demand, stale_back, Holding, holding, snooped_with, data_to}
 use Rattle.chip_model.specs.NodeShape.{is_modified}
 use Rattle.chip_model.specs.Bookkeeping.{is_get}
-use Rattle.chip_model.specs.Suppliers.{place_of_ordered}
 use Rattle.chip_model.specs.Writers.{is_ordered_write}
 use Rattle.chip_model.specs.Values.{place_of_demand}
 use Rattle.snoop_core.proofs.CacheMaps.{lookup-without_line, lookup-installed, fits_held}

@@ -6,9 +6,9 @@ use Rattle.vc_bank.specs.Places.{at as stands_at}
 use Rattle.report_text.specs.declared.access.Access.{Access}
 use Rattle.doc_text.specs.Doc.{Doc}
 use Rattle.chip_model.specs.Chip.{Chip}
-use Rattle.chip_model.specs.Cache.{Cache, Held, lookup}
+use Rattle.chip_model.specs.Cache.{Cache, lookup}
 use Rattle.chip_model.specs.Misses.{Demand, WriteBack}
-use Rattle.chip_model.specs.Records.{LineRecord, Records}
+use Rattle.chip_model.specs.Records.{Records}
 use Rattle.chip_model.specs.Node.{Node}
 use Rattle.chip_model.specs.Units.{UnitState}
 use Rattle.chip_model.specs.ChipState.{ChipState}
