@@ -1,22 +1,24 @@
 -- In every state that a chip of in-order cores reaches all copies have their values, and each read received what was written
 -- last before it.
-use Rattle.std.proofs.Common.{◌≡◌, ◌≢◌, ℕ, ◌<◌, Some, List, [], ◌∷◌, refl, sym, ap, ◌∙◌, subst, inl, inr, arith}
+use Rattle.std.proofs.Common.{◌≡◌, ◌≢◌, ℕ, ◌<◌, Option, Some, None, List, [], ◌∷◌, refl, sym, ap, ◌∙◌, subst, inl, inr, arith}
 use Rattle.std.specs.Prelude.{slice_get}
 use Rattle.std.proofs.lemmas.Bool.{cases_lt}
 use Rattle.std.proofs.lemmas.Option.{same_Some}
 use Rattle.report_text.specs.declared.access.Access.{Access}
 use Rattle.report_text.specs.declared.event.Event.{Event}
+use Rattle.report_text.specs.declared.event.Event.TheVariants.{Tick, Core, Inject, Post, Take, Eject, Send, Hop, DataHop, DataEject}
 use Rattle.doc_text.specs.Doc.{Doc}
-use Rattle.chip_model.specs.Chip.{chip_of}
+use Rattle.chip_model.specs.Chip.{Chip, chip_of}
 use Rattle.chip_model.specs.Units.{Behaviour, in_order}
 use Rattle.chip_model.specs.ChipState.{ChipState, opening}
-use Rattle.chip_model.specs.Events.{step}
+use Rattle.chip_model.specs.Events.{step, with_access}
 use Rattle.chip_model.specs.Runs.{noted, after, run}
 use Rattle.chip_model.specs.BehaviourLaws.{KeepsLaws}
 use Rattle.chip_model.specs.Values.{ValuesHold}
 use Rattle.chip_model.specs.ChipInvariant.{CoresInOrder, ProtocolHolds}
 use Rattle.chip_laws.specs.DocFits.{DocFits}
 use Rattle.chip_laws.specs.DocLaws.{DocLaws}
+use Rattle.chip_laws.specs.EventSteps.{EventDoes}
 use Rattle.chip_laws.specs.MessageLaws.{MessageLaws}
 use Rattle.chip_laws.proofs.EventSteps.{event_does}
 use Rattle.chip_laws.proofs.Options.{none_some, bind}
@@ -26,11 +28,13 @@ use Rattle.supply_laws.specs.Reachable.{StateHolds}
 use Rattle.supply_laws.proofs.NotedStates.{noted_state, noted_cores}
 use Rattle.supply_laws.proofs.ReachedStates.{IsKept, AreKeptInOrder, noted_after}
 use Rattle.value_laws.specs.Sequences.{AreRising}
-use Rattle.value_laws.specs.Reads.{ReadsHold}
+use Rattle.value_laws.specs.CoreRuns.{CoresRun}
+use Rattle.value_laws.specs.Reads.{ReadsHold, AccessesHold}
 use Rattle.value_laws.proofs.Executions.{cores_rising}
 use Rattle.value_laws.proofs.SettledSteps.{OrdersNothing}
 use Rattle.value_laws.proofs.StayedValues.{same_values}
 use Rattle.value_laws.proofs.QuietValues.{no_change, node_kept_values}
+use Rattle.value_laws.proofs.OpenedValues.{values_opened}
 use Rattle.value_laws.proofs.EventFrames.{same_places}
 use Rattle.value_laws.proofs.EventValues.{values_after}
 use Rattle.value_laws.proofs.EventReads.{quiet, reads_after}
@@ -122,3 +126,51 @@ numbers_apart d s holds cores i j a b away here there tile number = elim (cases_
       let less = ((cores a.tile own.unit own.unit_at).rising j i b a (omega (arith, beyond, away)) there here (sym tile) refl).0 in
       absurd (omega (arith, less, number)))
 ]
+
+-- ---- what the laws say
+
+-- before an event the accesses follow each other too
+with_access_rising : (xs : List Access) (o : Option Access) → AreRising (with_access o xs) → AreRising xs
+with_access_rising xs None rising = rising
+with_access_rising xs (Some a) rising = rising_before xs a rising
+
+earlier_rising : (b : Behaviour) (chip : Chip) (s new : ChipState) (event : Event) → EventDoes b chip s new event → AreRising new.accesses
+    → AreRising s.accesses
+earlier_rising b chip s new Tick does rising = subst AreRising does.accesses rising
+earlier_rising b chip s new (Core t) does rising = with_access_rising s.accesses (b.stepped does.unit).1 (subst AreRising does.accesses rising)
+earlier_rising b chip s new (Inject t) does rising = subst AreRising does.accesses rising
+earlier_rising b chip s new (Post t) does rising = subst AreRising does.accesses rising
+earlier_rising b chip s new (Take t) does rising = subst AreRising does.accesses rising
+earlier_rising b chip s new (Eject t) does rising = with_access_rising s.accesses (b.delivered does.request does.unit).1 (subst AreRising does.accesses rising)
+earlier_rising b chip s new (Send t) does rising = subst AreRising does.accesses rising
+earlier_rising b chip s new (Hop r port slot out) does rising = subst AreRising does.accesses rising
+earlier_rising b chip s new (DataHop r port slot) does rising = subst AreRising does.accesses rising
+earlier_rising b chip s new (DataEject r port slot) does rising = with_access_rising s.accesses (b.received does.msg does.unit).1
+    (subst AreRising does.accesses rising)
+
+pub values_step : IsKept → MessageLaws → (b : Behaviour) (laws : KeepsLaws b) (d : Doc) (s new : ChipState) (event : Event) → DocLaws d → StateHolds b laws d s
+    → AreRising new.accesses → ValuesHold d s → step b (chip_of d) s event ≡ Some new → ValuesHold d new
+values_step kept messages b laws d s new event fits holds rises values e =
+    values_kept kept messages b laws d s new event fits holds
+    (earlier_rising b (chip_of d) s new event (event_does b (chip_of d) s new event e) rises) rises values e
+
+pub state_opened : ((b : Behaviour) (laws : KeepsLaws b) (d : Doc) → DocFits d → StateHolds b laws d (opening d)) → ((d : Doc) → CoresInOrder (opening d))
+    → (laws : KeepsLaws in_order) (d : Doc)
+    → DocFits d → InOrderState laws d (opening d)
+state_opened opened cores laws d fits = record {
+  state = opened in_order laws d fits;
+  cores = cores d;
+  values = values_opened d;
+  reads = λ place a at. none_some a at;
+}
+
+-- the same, as what the accesses rest on
+pub accesses_hold : (laws : KeepsLaws in_order) (d : Doc) (s : ChipState) → InOrderState laws d s → CoresRun s → AccessesHold d s
+accesses_hold laws d s is runs = record {
+  chip = record { protocol = is.state.protocol; cores = is.cores; values = is.values };
+  cores = runs;
+  reads = is.reads;
+}
+
+pub of_accesses : (laws : KeepsLaws in_order) (d : Doc) (s : ChipState) → StateHolds in_order laws d s → AccessesHold d s → InOrderState laws d s
+of_accesses laws d s holds is = record { state = holds; cores = is.chip.cores; values = is.chip.values; reads = is.reads }
