@@ -48,7 +48,8 @@ get_performs : (q : Request) (node : Node) (one : Done) → q.source ≡ node.ti
 get_performs q node one source asks (demand, stands, is_for) done = by (words_here node.chip node.side demand demand.early) refl where
   by : (words : Option (List ℕ)) → words_here node.chip node.side demand demand.early ≡ words → OwnGet q node one
   by None here =
-      none_some one (sym (get_done q node demand source asks stands ∙ ap (λ (o : Option (List ℕ)). (ordered_with node.chip node.side node.delivered demand o).done) here) ∙ done)
+      none_some one (sym (get_done q node demand source asks stands ∙ ap
+      (λ (o : Option (List ℕ)). (ordered_with node.chip node.side node.delivered demand o).done) here) ∙ done)
   by (Some words) here = record {
     source = source;
     asks = asks;
