@@ -18,7 +18,7 @@ use Rattle.chip_model.specs.Chip.{Chip}
 use Rattle.chip_model.specs.Units.{UnitState}
 use Rattle.chip_model.specs.ChipState.{ChipState}
 use Rattle.chip_model.specs.Witness.{is_before, in_sequence, witness}
-use Rattle.chip_model.specs.ChipInvariant.{ProtocolHolds}
+use Rattle.chip_model.specs.ChipInvariant.{CoresInOrder, ProtocolHolds}
 use Rattle.chip_laws.specs.DocFits.{DocFits}
 use Rattle.chip_laws.proofs.Each.{each_from}
 use Rattle.chip_laws.proofs.RequestsInside.{tile_of}
@@ -35,11 +35,14 @@ rising_from (a ∷ xs) h = (
   rising_from xs (λ before behind b c less here there. h (suc before) (suc behind) b c (omega arith) here there),
 )
 
--- each access follows those that were performed before it
+-- each access of in-order cores follows those that were performed before it
+pub cores_rising : (d : Doc) (s : ChipState) → ProtocolHolds d s → CoresInOrder s → AreRising s.accesses
+cores_rising d s holds cores = rising_from s.accesses (λ before behind a b less here there. follows_by a b (λ same.
+    let tile = tile_of d s a.tile holds (holds.performers before a here) in
+    (cores a.tile tile.unit tile.unit_at).rising before behind a b less here there refl (sym same)))
+
 pub rising : (d : Doc) (s : ChipState) → AccessesHold d s → AreRising s.accesses
-rising d s h = rising_from s.accesses (λ before behind a b less here there. follows_by a b (λ same.
-    let tile = tile_of d s a.tile h.chip.protocol (h.chip.protocol.performers before a here) in
-    (h.chip.cores a.tile tile.unit tile.unit_at).rising before behind a b less here there refl (sym same)))
+rising d s h = cores_rising d s h.chip.protocol h.chip.cores
 
 -- ---- the cores
 

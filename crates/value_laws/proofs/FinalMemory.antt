@@ -83,7 +83,7 @@ word_in_lines f first (suc count) (suc k) j four less small =
 
 -- ---- the words of a line after all writes
 
-length_words : (d : Doc) (line : ℕ) → DocFits d → line < d.lines → length (words_at d.memory line) ≡ 4
+pub length_words : (d : Doc) (line : ℕ) → DocFits d → line < d.lines → length (words_at d.memory line) ≡ 4
 length_words d line fits less =
     length-take 4 (drop (4 * line) d.memory) ∙ omega (arith, length-drop (4 * line) d.memory, fits.memory)
 

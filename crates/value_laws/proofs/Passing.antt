@@ -18,14 +18,14 @@ use Rattle.value_laws.proofs.LineValues.{NoWriteAt, value_next}
 use Rattle.value_laws.proofs.SettledLines.{settled_next}
 
 -- a write at a time is by the tile that may write then
-wrote : (d : Doc) (s : ChipState) (line time i : ℕ) (a : Access) → ProtocolHolds d s → slice_get s.accesses i ≡ Some a → is_write a ≡ true → line_of a.address ≡ line → a.time ≡ time
+pub wrote : (d : Doc) (s : ChipState) (line time i : ℕ) (a : Access) → ProtocolHolds d s → slice_get s.accesses i ≡ Some a → is_write a ≡ true → line_of a.address ≡ line → a.time ≡ time
     → writer line (take time s.network.ordered) ≡ Tile a.tile
 wrote d s line time i a h at write same then_ =
     ap (λ (n : ℕ). writer line (take n s.network.ordered)) (sym then_)
     ∙ ap (λ (n : ℕ). writer n (take a.time s.network.ordered)) (sym same)
     ∙ (h.timely.writers i a at write).0
 
-next_settled : (d : Doc) (s : ChipState) (u line place : ℕ) (other : UnitState) → ProtocolHolds d s → slice_get s.units u ≡ Some other
+pub next_settled : (d : Doc) (s : ChipState) (u line place : ℕ) (other : UnitState) → ProtocolHolds d s → slice_get s.units u ≡ Some other
     → (writer line (take (place + 1) s.network.ordered) ≡ Tile u → ⊥) → IsSettled s.network.ordered other.node line place → IsSettled s.network.ordered other.node line (place + 1)
 next_settled d s u line place other h is never settled =
     let holds = (unit_holds d s u other h is).holds in

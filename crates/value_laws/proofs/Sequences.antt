@@ -12,7 +12,7 @@ use Rattle.value_laws.specs.Sequences.{AreRising, Follows}
 
 -- ---- of two accesses
 
-before_itself : (a : Access) → is_before a a ≡ false
+pub before_itself : (a : Access) → is_before a a ≡ false
 before_itself a = grind (arith, nat_tests)
 
 pub before_trans : (a b c : Access) → is_before a b ≡ true → is_before b c ≡ true → is_before a c ≡ true

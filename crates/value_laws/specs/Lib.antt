@@ -1,3 +1,4 @@
 pub mod Sequences
 pub mod CoreRuns
 pub mod Reads
+pub mod Deliveries
