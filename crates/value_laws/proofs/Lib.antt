@@ -52,3 +52,4 @@ pub mod EventReads
 pub mod InOrderHits
 pub mod ReachedValues
 pub mod DoneAccesses
+pub mod CountedAccesses

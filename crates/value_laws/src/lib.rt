@@ -4,11 +4,13 @@
 mod consistency;
 mod cores;
 mod laws;
+mod numbers;
 mod orders;
 mod values;
 
 pub use consistency::consistency_laws;
 pub use cores::core_run_laws;
 pub use laws::{sequence_laws, value_laws};
+pub use numbers::number_laws;
 pub use orders::delivery_order_laws;
 pub use values::{kept_value_laws, reached_access_laws};
