@@ -22,7 +22,7 @@ use Rattle.chip_model.specs.Values.{HasValue, CopyHasValue, place_of_demand, pla
 use Rattle.chip_laws.specs.EventSteps.{ChangesUnit}
 use Rattle.chip_laws.proofs.SuppliedEvents.{unit_holds}
 use Rattle.supply_laws.proofs.GetPlaces.{at_waits}
-use Rattle.value_laws.specs.Sequences.{AreRising}
+use Rattle.value_laws.specs.Sequences.{AreSucceeding}
 use Rattle.value_laws.proofs.Completion.{Completion, CompletesBy, value_elsewhere}
 use Rattle.value_laws.proofs.CompletedValues.{back_stood, shared_at, completion_keeps, completed_node}
 use Rattle.value_laws.proofs.OwnDeliveries.{of_append}
@@ -39,7 +39,7 @@ other_write line demand away =
     ap (λ (b : Bool). b && is_getm demand.kind && is_some demand.ordered) (ne_eqb demand.line line (λ same. away (sym same)))
 
 module _ (d : Doc) (s new : ChipState) (e : OrdersNothing d s new) (values : ValuesHold d s) (t : ℕ) (unit after : UnitState)
-    (c : ChangesUnit s new t unit after) (rising : AreRising s.accesses)
+    (c : ChangesUnit s new t unit after) (rising : AreSucceeding s.accesses)
     (line : ℕ) (words : List ℕ) (demand : Demand) (stands : unit.node.side.misses.demand ≡ Some demand) (place : ℕ) (ordered : demand.ordered ≡ Some place)
     (answers : AnswersGet d s unit.node line words) (node : after.node ≡ (words_arrived unit.node words).0)
     (number : ℕ) (accesses : new.accesses ≡ s.accesses ++ numbered unit (done_by demand.pending (place + 1) words) number ∷ []) where
@@ -163,7 +163,7 @@ module _ (d : Doc) (s new : ChipState) (e : OrdersNothing d s new) (values : Val
       (λ router port slot msg there. values.channels router port slot msg (left router port slot msg there))
 
 -- words that come for an ordered demand keep all values
-pub arrived_values : (d : Doc) (s new : ChipState) → OrdersNothing d s new → ValuesHold d s → AreRising s.accesses → (t : ℕ) (unit after : UnitState)
+pub arrived_values : (d : Doc) (s new : ChipState) → OrdersNothing d s new → ValuesHold d s → AreSucceeding s.accesses → (t : ℕ) (unit after : UnitState)
     → ChangesUnit s new t unit after
     → (line : ℕ) (words : List ℕ) → AnswersGet d s unit.node line words
     → (demand : Demand) (place : ℕ) → unit.node.side.misses.demand ≡ Some demand → demand.ordered ≡ Some place

@@ -23,7 +23,7 @@ use Rattle.snoop_core.specs.Requests.{IsRequestOf, MeetsDemand, MeetsOwn, OwnReq
 use Rattle.chip_laws.specs.DocLaws.{DocLaws}
 use Rattle.chip_laws.specs.EventSteps.{ChangesUnit}
 use Rattle.chip_laws.proofs.Options.{none_some}
-use Rattle.value_laws.specs.Sequences.{AreRising}
+use Rattle.value_laws.specs.Sequences.{AreSucceeding}
 use Rattle.value_laws.proofs.SettledSteps.{OrdersNothing}
 use Rattle.value_laws.proofs.DoneAccesses.{completed_done, own_done, get_done, put_done, other_done, data_done}
 use Rattle.value_laws.proofs.Completion.{CompletesBy}
@@ -79,7 +79,7 @@ request_performs q node one own done = elim (cases_eq q.source node.tile) [
 ]
 
 -- a delivery that performs an access completes the demand
-pub request_completes : (d : Doc) (s new : ChipState) → OrdersNothing d s new → ValuesHold d s → DocLaws d → AreRising s.accesses
+pub request_completes : (d : Doc) (s new : ChipState) → OrdersNothing d s new → ValuesHold d s → DocLaws d → AreSucceeding s.accesses
     → (t : ℕ) (unit after : UnitState)
     → ChangesUnit s new t unit after → (q : Request) → slice_get s.network.ordered unit.node.delivered ≡ Some q → OwnRequestFits unit.node.tile unit.node.side q
     → after.node ≡ (node_after_request q unit.node).0 → (one : Done) → (node_after_request q unit.node).1 ≡ Some one
@@ -133,7 +133,7 @@ unfolding node_after_message
 words_node msg node kind = ap (λ (k : MsgKind). (arrived_as msg node k).0) kind
 
 -- a message that performs an access completes the demand
-pub message_completes : (d : Doc) (s new : ChipState) → OrdersNothing d s new → ValuesHold d s → AreRising s.accesses → (t : ℕ) (unit after : UnitState)
+pub message_completes : (d : Doc) (s new : ChipState) → OrdersNothing d s new → ValuesHold d s → AreSucceeding s.accesses → (t : ℕ) (unit after : UnitState)
     → ChangesUnit s new t unit after → (msg : Msg) → DataFits unit.node.side msg → (msg.kind ≡ Data → AnswersGet d s unit.node msg.line msg.words)
     → after.node ≡ (node_after_message msg unit.node).0 → (one : Done) → (node_after_message msg unit.node).1 ≡ Some one
     → (number : ℕ) → new.accesses ≡ s.accesses ++ numbered unit one number ∷ [] → CompletesBy d s new t unit after number

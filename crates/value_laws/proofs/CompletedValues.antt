@@ -22,7 +22,7 @@ use Rattle.chip_laws.specs.EventSteps.{ChangesUnit}
 use Rattle.chip_laws.proofs.Options.{none_some}
 use Rattle.chip_laws.proofs.SuppliedEvents.{unit_holds}
 use Rattle.chip_laws.proofs.UnderWay.{completed_none}
-use Rattle.value_laws.specs.Sequences.{AreRising}
+use Rattle.value_laws.specs.Sequences.{AreSucceeding}
 use Rattle.value_laws.proofs.Completion.{Completion, fits, write_asks, value_elsewhere}
 use Rattle.value_laws.proofs.CompletedCopies.{CopyLeft, IsLeft, loaded, stored, shared, asks_write, copies_left}
 use Rattle.value_laws.proofs.SettledSteps.{OrdersNothing, now, still_at, settled_on}
@@ -32,7 +32,7 @@ use Rattle.value_laws.proofs.WaitersOf.{WaitsAtPlace, waits_at_place, of_map}
 
 module _ (d : Doc) (s new : ChipState) (e : OrdersNothing d s new) (t : ℕ) (unit after : UnitState) (c : ChangesUnit s new t unit after)
     (is : Completion d s new t unit after)
-    (rising : AreRising s.accesses) where
+    (rising : AreSucceeding s.accesses) where
   -- ---- the node afterwards
   chip : after.node.chip ≡ unit.node.chip
   chip = (unit_holds d new t after e.behind (now d s new e t unit after c)).holds.node.chip ∙ sym (unit_holds d s t unit e.before c.at).holds.node.chip

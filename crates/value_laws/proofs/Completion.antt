@@ -26,6 +26,7 @@ use Rattle.chip_model.specs.ChipInvariant.{ProtocolHolds}
 use Rattle.chip_laws.proofs.Each.{each_from}
 use Rattle.chip_laws.proofs.SuppliedEvents.{unit_holds}
 use Rattle.value_laws.specs.Sequences.{Follows}
+use Rattle.value_laws.proofs.Sequences.{all_succeed}
 use Rattle.value_laws.proofs.LineValues.{value_kept}
 
 -- The demand's request stands at a place of the order, with what the requests delivered after it have made of the demand; the
@@ -110,7 +111,7 @@ module _ (d : Doc) (s new : ChipState) (t : ℕ) (unit after : UnitState) (holds
       → line_value d new.accesses line p ≡ line_value d s.accesses line p
   value_elsewhere line p apart =
       ap (λ (xs : List Access). line_value d xs line p) is.accesses
-      ∙ value_kept d s.accesses is.access line p follows (false_from_ne_true (writes_by line p is.access) (λ counts.
+      ∙ value_kept d s.accesses is.access line p (all_succeed is.access s.accesses follows) (false_from_ne_true (writes_by line p is.access) (λ counts.
       let both = and_parts (is_write is.access && (line_of is.access.address == line)) (nat_le is.access.time p) counts in
       let first = and_parts (is_write is.access) (line_of is.access.address == line) both.0 in
       let early : is.access.time ≤ p = leb-true is.access.time p both.1 in

@@ -22,7 +22,7 @@ use Rattle.chip_laws.proofs.RequestsInside.{tile_of}
 use Rattle.supply_laws.specs.Reachable.{StateHolds}
 use Rattle.supply_laws.proofs.Carried.{hopped_stands}
 use Rattle.supply_laws.proofs.KeptOrders.{posted_order, taken_order, hopped_order}
-use Rattle.value_laws.specs.Sequences.{AreRising}
+use Rattle.value_laws.specs.Sequences.{AreSucceeding}
 use Rattle.value_laws.proofs.EventFrames.{orders_nothing}
 use Rattle.value_laws.proofs.GrownValues.{tick_values}
 use Rattle.value_laws.proofs.NodeEvents.{core_values, request_values, message_values}
@@ -36,7 +36,7 @@ AccessesKeepValues b d s new = (t : ℕ) (does : CoreWorks b s new t) (a : Acces
 
 module _ (messages : MessageLaws) (b : Behaviour) (laws : KeepsLaws b) (d : Doc) (s new : ChipState) (fits : DocLaws d) (holds : StateHolds b laws d s)
     (left : StateHolds b laws d new)
-    (rising : AreRising s.accesses) (values : ValuesHold d s) (hits : AccessesKeepValues b d s new) where
+    (rising : AreSucceeding s.accesses) (values : ValuesHold d s) (hits : AccessesKeepValues b d s new) where
   same_order : new.network ≡ s.network → new.network.ordered ≡ s.network.ordered
   same_order same = ap (λ (net : OrderedNetwork). net.ordered) same
 

@@ -4,7 +4,7 @@ use Rattle.std.specs.List.{AllByRecursion}
 use Rattle.std.proofs.lemmas.Bool.{false≢true}
 use Rattle.report_text.specs.declared.access.Access.{Access}
 use Rattle.chip_model.specs.Witness.{is_before, inserted, in_sequence}
-use Rattle.value_laws.specs.Sequences.{Follows}
+use Rattle.value_laws.specs.Sequences.{Succeeds}
 use Rattle.value_laws.proofs.Sequences.{InOrder, one_before, before_asym, before_between, before_trans}
 
 -- ---- two accesses of which one comes before the other are inserted in any order
@@ -12,7 +12,7 @@ use Rattle.value_laws.proofs.Sequences.{InOrder, one_before, before_asym, before
 abbrev put : Access → Access → List Access → Bool → List Access
 put a b xs t = cond t (b ∷ inserted a xs) (a ∷ b ∷ xs)
 
-swapped_at : (x a b : Access) (xs : List Access) (p q : Bool) → is_before b x ≡ p → is_before b a ≡ q → Follows x a → inserted x (inserted a xs) ≡ inserted a (inserted x xs)
+swapped_at : (x a b : Access) (xs : List Access) (p q : Bool) → is_before b x ≡ p → is_before b a ≡ q → Succeeds x a → inserted x (inserted a xs) ≡ inserted a (inserted x xs)
     → inserted x (put a b xs q) ≡ inserted a (put x b xs p)
 swapped_at x a b xs true true ep eq follows rest = rw (ep, eq) (ap (λ (ys : List Access). b ∷ ys) rest)
 swapped_at x a b xs false true ep eq follows rest =
@@ -38,7 +38,7 @@ swapped_at x a b xs false false ep eq follows rest =
       pair true true e f = absurd (false≢true (sym (before_asym x a f) ∙ e))
       pair false false e f = absurd (false≢true (sym f ∙ one_before x a follows e))
 
-swapped : (x a : Access) (xs : List Access) → Follows x a → inserted x (inserted a xs) ≡ inserted a (inserted x xs)
+swapped : (x a : Access) (xs : List Access) → Succeeds x a → inserted x (inserted a xs) ≡ inserted a (inserted x xs)
 swapped x a [] follows = pair (is_before a x) (is_before x a) refl refl where
   pair : (p q : Bool) → is_before a x ≡ p → is_before x a ≡ q → cond p (a ∷ x ∷ []) (x ∷ a ∷ []) ≡ cond q (x ∷ a ∷ []) (a ∷ x ∷ [])
   pair true false e f = refl
@@ -48,7 +48,7 @@ swapped x a [] follows = pair (is_before a x) (is_before x a) refl refl where
 swapped x a (b ∷ xs) follows = swapped_at x a b xs (is_before b x) (is_before b a) refl refl follows (swapped x a xs follows)
 
 -- the last access performed stands in sequence as if it had been inserted last
-pub sequence_push : (xs : List Access) (a : Access) → AllByRecursion (λ x. Follows x a) xs → in_sequence (xs ++ a ∷ []) ≡ inserted a (in_sequence xs)
+pub sequence_push : (xs : List Access) (a : Access) → AllByRecursion (λ x. Succeeds x a) xs → in_sequence (xs ++ a ∷ []) ≡ inserted a (in_sequence xs)
 sequence_push [] a all = refl
 sequence_push (x ∷ xs) a all =
     ap (inserted x) (sequence_push xs a all.1) ∙ swapped x a (in_sequence xs) all.0

@@ -13,7 +13,7 @@ use Rattle.flat_ref.specs.Order.{word_by, last_written}
 use Rattle.chip_model.specs.Chip.{line_of, word_of}
 use Rattle.chip_model.specs.Node.{words_at}
 use Rattle.chip_model.specs.Witness.{is_before, in_sequence, is_write, writes_by, with_write, line_value}
-use Rattle.value_laws.specs.Sequences.{AreRising, Follows}
+use Rattle.value_laws.specs.Sequences.{AreSucceeding, Succeeds}
 use Rattle.value_laws.proofs.Sequences.{each_in_sequence, in_order_sequence}
 use Rattle.value_laws.proofs.Inserted.{sequence_push, passed_over, passed_last, same_passed}
 
@@ -22,7 +22,7 @@ abbrev value_of : Doc → ℕ → List Access → List ℕ
 value_of d line accesses = fold with_write (words_at d.memory line) accesses
 
 -- an access that is no write to the line up to the place changes nothing
-pub value_kept : (d : Doc) (xs : List Access) (a : Access) (line place : ℕ) → AllByRecursion (λ x. Follows x a) xs → writes_by line place a ≡ false
+pub value_kept : (d : Doc) (xs : List Access) (a : Access) (line place : ℕ) → AllByRecursion (λ x. Succeeds x a) xs → writes_by line place a ≡ false
     → line_value d (xs ++ a ∷ []) line place ≡ line_value d xs line place
 unfolding line_value
 value_kept d xs a line place follows fails =
@@ -30,7 +30,7 @@ value_kept d xs a line place follows fails =
     ∙ ap (value_of d line) (passed_over (writes_by line place) a (in_sequence xs) fails)
 
 -- the last write to the line up to the place changes its word
-pub value_written : (d : Doc) (xs : List Access) (a : Access) (line place : ℕ) → AreRising xs → AllByRecursion (λ x. Follows x a) xs → writes_by line place a ≡ true
+pub value_written : (d : Doc) (xs : List Access) (a : Access) (line place : ℕ) → AreSucceeding xs → AllByRecursion (λ x. Succeeds x a) xs → writes_by line place a ≡ true
     → AllByRecursion (λ b. writes_by line place b ≡ true → is_before b a ≡ true) xs → line_value d (xs ++ a ∷ []) line place ≡ with_write (line_value d xs line place) a
 unfolding line_value
 value_written d xs a line place rising follows passes last =

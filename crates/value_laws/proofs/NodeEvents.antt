@@ -35,7 +35,7 @@ use Rattle.chip_laws.proofs.WholeSteps.{delivers_next}
 use Rattle.supply_laws.specs.OpenGets.{NoneWritesBackBefore, DataAnswersGets}
 use Rattle.supply_laws.proofs.Arrivals.{arrivals_fit}
 use Rattle.supply_laws.proofs.Carried.{received_leaves}
-use Rattle.value_laws.specs.Sequences.{AreRising}
+use Rattle.value_laws.specs.Sequences.{AreSucceeding}
 use Rattle.value_laws.proofs.ArrivedValues.{arrived_values}
 use Rattle.value_laws.proofs.EarlyValues.{early_values}
 use Rattle.value_laws.proofs.GrownValues.{carried_due}
@@ -96,7 +96,7 @@ core_values b laws d s new e values fit t does none =
 -- ---- the delivery of a request
 module _ (b : Behaviour) (laws : KeepsLaws b) (d : Doc) (s new : ChipState) (e : OrdersNothing d s new) (values : ValuesHold d s) (fit : UnitsFit b laws s)
     (fits : DocLaws d)
-    (rising : AreRising s.accesses) (t : ℕ) (does : RequestComes b (chip_of d) s new t) (source : does.request.source ≡ does.unit.node.tile) where
+    (rising : AreSucceeding s.accesses) (t : ℕ) (does : RequestComes b (chip_of d) s new t) (source : does.request.source ≡ does.unit.node.tile) where
   goes : GoesOn does.unit (node_after_request does.request does.unit.node) (b.delivered does.request does.unit)
   goes = (laws.delivered does.request does.unit (fit t does.unit does.changes.at)).1.goes_on
 
@@ -151,7 +151,7 @@ module _ (b : Behaviour) (laws : KeepsLaws b) (d : Doc) (s new : ChipState) (e :
   own_request_values = by_kind does.request.kind refl (own source)
 
 pub request_values : (b : Behaviour) (laws : KeepsLaws b) (d : Doc) (s new : ChipState) → OrdersNothing d s new → ValuesHold d s → UnitsFit b laws s
-    → DocLaws d → AreRising s.accesses
+    → DocLaws d → AreSucceeding s.accesses
     → (t : ℕ) → RequestComes b (chip_of d) s new t → ValuesHold d new
 request_values b laws d s new e values fit fits rising t does = elim (cases_eq does.request.source does.unit.node.tile) [
   | inl own ↦ own_request_values b laws d s new e values fit fits rising t does own
@@ -199,7 +199,7 @@ module _ (b : Behaviour) (laws : KeepsLaws b) (d : Doc) (s new : ChipState) (e :
   answers kind = (subst (MessageHasValue d s does.msg) kind carried) does.unit (ap (slice_get s.units) received.here ∙ does.changes.at)
 
   -- for an ordered demand
-  ordered_data : AreRising s.accesses → does.msg.kind ≡ Data → (demand : Demand) (place : ℕ) → does.unit.node.side.misses.demand ≡ Some demand
+  ordered_data : AreSucceeding s.accesses → does.msg.kind ≡ Data → (demand : Demand) (place : ℕ) → does.unit.node.side.misses.demand ≡ Some demand
       → demand.ordered ≡ Some place → ValuesHold d new
   ordered_data rising kind demand place stands ordered =
       let shown : node_after_message does.msg does.unit.node ≡ words_arrived does.unit.node does.msg.words = message_as Data kind in
@@ -228,7 +228,7 @@ module _ (b : Behaviour) (laws : KeepsLaws b) (d : Doc) (s new : ChipState) (e :
       (b.received does.msg does.unit).1 done reacts.answers))
       (λ r p i m there. values.channels r p i m (left r p i m there))
 
-  data_values : AreRising s.accesses → DataAnswersGets s → does.msg.kind ≡ Data → ValuesHold d new
+  data_values : AreSucceeding s.accesses → DataAnswersGets s → does.msg.kind ≡ Data → ValuesHold d new
   data_values rising waiting kind =
       let (demand, stands, is_for) = arrivals_fit d s e.before waiting t port slot does.unit does.msg new.replies does.changes.at does.replies kind in
       by demand stands is_for.line demand.ordered refl
@@ -238,7 +238,7 @@ module _ (b : Behaviour) (laws : KeepsLaws b) (d : Doc) (s new : ChipState) (e :
       by demand stands line (Some place) ordered = ordered_data rising kind demand place stands ordered
       by demand stands line None unordered = early_data kind demand stands (sym line) unordered
 
-  pub message_values : AreRising s.accesses → NoneWritesBackBefore s → DataAnswersGets s → ValuesHold d new
+  pub message_values : AreSucceeding s.accesses → NoneWritesBackBefore s → DataAnswersGets s → ValuesHold d new
   message_values rising none waiting = by does.msg.kind refl where
     by : (kind : MsgKind) → does.msg.kind ≡ kind → ValuesHold d new
     by Data kind = data_values rising waiting kind

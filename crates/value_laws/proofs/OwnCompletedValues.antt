@@ -31,7 +31,7 @@ use Rattle.chip_laws.proofs.OrderLists.{between_none}
 use Rattle.chip_laws.proofs.SuppliedEvents.{unit_holds}
 use Rattle.supply_laws.proofs.GetPlaces.{get_of, undelivered_open}
 use Rattle.supply_laws.proofs.PlaceEvents.{one_of}
-use Rattle.value_laws.specs.Sequences.{AreRising}
+use Rattle.value_laws.specs.Sequences.{AreSucceeding}
 use Rattle.value_laws.proofs.AnsweredValues.{records_next, home_sends}
 use Rattle.value_laws.proofs.Completion.{Completion, CompletesBy, value_elsewhere}
 use Rattle.value_laws.proofs.CompletedValues.{idle, back_stood, completion_keeps, completed_node}
@@ -60,7 +60,7 @@ owned_here node line words (Some held) there is = by held.state refl is where
 
 module _ (d : Doc) (s new : ChipState) (e : OrdersNothing d s new) (values : ValuesHold d s) (fits : DocLaws d) (t : ℕ) (unit after : UnitState)
     (c : ChangesUnit s new t unit after)
-    (rising : AreRising s.accesses) (q : Request) (next : slice_get s.network.ordered unit.node.delivered ≡ Some q) (source : q.source ≡ unit.node.tile)
+    (rising : AreSucceeding s.accesses) (q : Request) (next : slice_get s.network.ordered unit.node.delivered ≡ Some q) (source : q.source ≡ unit.node.tile)
     (asks : is_get q.kind ≡ true)
     (demand : Demand) (stands : unit.node.side.misses.demand ≡ Some demand) (is_for : IsRequestOf demand q)
     (words : List ℕ) (here : words_here unit.node.chip unit.node.side demand demand.early ≡ Some words) (node : after.node ≡ (node_after_request q unit.node).0)
@@ -205,7 +205,7 @@ module _ (d : Doc) (s new : ChipState) (e : OrdersNothing d s new) (values : Val
       (λ router port slot msg there. values.channels router port slot msg (ap (λ (net : Network Msg). stands_at net router port slot) (sym replies) ∙ there))
 
 -- the delivery of a tile's own get that completes keeps all values
-pub own_completed_values : (d : Doc) (s new : ChipState) → OrdersNothing d s new → ValuesHold d s → DocLaws d → AreRising s.accesses
+pub own_completed_values : (d : Doc) (s new : ChipState) → OrdersNothing d s new → ValuesHold d s → DocLaws d → AreSucceeding s.accesses
     → (t : ℕ) (unit after : UnitState)
     → ChangesUnit s new t unit after → (q : Request) → slice_get s.network.ordered unit.node.delivered ≡ Some q → q.source ≡ unit.node.tile
     → is_get q.kind ≡ true

@@ -27,7 +27,7 @@ use Rattle.chip_laws.proofs.RequestsInside.{tile_of}
 use Rattle.supply_laws.specs.Reachable.{StateHolds}
 use Rattle.supply_laws.proofs.NotedStates.{noted_state, noted_cores}
 use Rattle.supply_laws.proofs.ReachedStates.{IsKept, AreKeptInOrder, noted_after}
-use Rattle.value_laws.specs.Sequences.{AreRising}
+use Rattle.value_laws.specs.Sequences.{AreSucceeding, Succeeds}
 use Rattle.value_laws.specs.CoreRuns.{CoresRun}
 use Rattle.value_laws.specs.Reads.{ReadsHold, AccessesHold}
 use Rattle.value_laws.proofs.Executions.{cores_rising}
@@ -38,15 +38,16 @@ use Rattle.value_laws.proofs.OpenedValues.{values_opened}
 use Rattle.value_laws.proofs.EventFrames.{same_places}
 use Rattle.value_laws.proofs.EventValues.{values_after}
 use Rattle.value_laws.proofs.EventReads.{quiet, reads_after}
-use Rattle.value_laws.proofs.CoreHits.{rising_before, accesses_keep_values}
+use Rattle.value_laws.proofs.CoreHits.{accesses_keep_values}
+use Rattle.value_laws.proofs.Sequences.{all_succeeding, pairs_before}
 use Rattle.value_laws.proofs.InOrderHits.{in_order_tries}
 
 -- ---- an event
 
 -- of whatever cores, where each access follows those that its tile performed before
 pub values_kept : IsKept → MessageLaws → (b : Behaviour) (laws : KeepsLaws b) (d : Doc) (s new : ChipState) (event : Event) → DocLaws d
-    → StateHolds b laws d s → AreRising s.accesses
-    → AreRising new.accesses → ValuesHold d s → step b (chip_of d) s event ≡ Some new → ValuesHold d new
+    → StateHolds b laws d s → AreSucceeding s.accesses
+    → AreSucceeding new.accesses → ValuesHold d s → step b (chip_of d) s event ≡ Some new → ValuesHold d new
 values_kept kept messages b laws d s new event fits holds rising rises values e =
     values_after messages b laws d s new fits holds (kept b laws d s new event fits.doc holds e) rising values
     (accesses_keep_values b laws d s new holds.fit rises values) event (event_does b (chip_of d) s new event e)
@@ -69,7 +70,8 @@ state_kept kept in_turn messages laws d s new event fits is e =
     record {
       state = left;
       cores = cores;
-      values = values_kept kept messages in_order laws d s new event fits is.state rising rises is.values e;
+      values = values_kept kept messages in_order laws d s new event fits is.state (all_succeeding s.accesses rising) (all_succeeding new.accesses rises)
+          is.values e;
       reads = reads_after messages in_order laws d s new fits is.state left rising rises is.values is.reads
           (in_order_tries laws d s new fits.doc is.state.protocol is.state.fit) event (event_does in_order (chip_of d) s new event e);
     }
@@ -130,26 +132,26 @@ numbers_apart d s holds cores i j a b away here there tile number = elim (cases_
 -- ---- what the laws say
 
 -- before an event the accesses follow each other too
-with_access_rising : (xs : List Access) (o : Option Access) → AreRising (with_access o xs) → AreRising xs
+with_access_rising : (xs : List Access) (o : Option Access) → AreSucceeding (with_access o xs) → AreSucceeding xs
 with_access_rising xs None rising = rising
-with_access_rising xs (Some a) rising = rising_before xs a rising
+with_access_rising xs (Some a) rising = pairs_before Succeeds xs a rising
 
-earlier_rising : (b : Behaviour) (chip : Chip) (s new : ChipState) (event : Event) → EventDoes b chip s new event → AreRising new.accesses
-    → AreRising s.accesses
-earlier_rising b chip s new Tick does rising = subst AreRising does.accesses rising
-earlier_rising b chip s new (Core t) does rising = with_access_rising s.accesses (b.stepped does.unit).1 (subst AreRising does.accesses rising)
-earlier_rising b chip s new (Inject t) does rising = subst AreRising does.accesses rising
-earlier_rising b chip s new (Post t) does rising = subst AreRising does.accesses rising
-earlier_rising b chip s new (Take t) does rising = subst AreRising does.accesses rising
-earlier_rising b chip s new (Eject t) does rising = with_access_rising s.accesses (b.delivered does.request does.unit).1 (subst AreRising does.accesses rising)
-earlier_rising b chip s new (Send t) does rising = subst AreRising does.accesses rising
-earlier_rising b chip s new (Hop r port slot out) does rising = subst AreRising does.accesses rising
-earlier_rising b chip s new (DataHop r port slot) does rising = subst AreRising does.accesses rising
+earlier_rising : (b : Behaviour) (chip : Chip) (s new : ChipState) (event : Event) → EventDoes b chip s new event → AreSucceeding new.accesses
+    → AreSucceeding s.accesses
+earlier_rising b chip s new Tick does rising = subst AreSucceeding does.accesses rising
+earlier_rising b chip s new (Core t) does rising = with_access_rising s.accesses (b.stepped does.unit).1 (subst AreSucceeding does.accesses rising)
+earlier_rising b chip s new (Inject t) does rising = subst AreSucceeding does.accesses rising
+earlier_rising b chip s new (Post t) does rising = subst AreSucceeding does.accesses rising
+earlier_rising b chip s new (Take t) does rising = subst AreSucceeding does.accesses rising
+earlier_rising b chip s new (Eject t) does rising = with_access_rising s.accesses (b.delivered does.request does.unit).1 (subst AreSucceeding does.accesses rising)
+earlier_rising b chip s new (Send t) does rising = subst AreSucceeding does.accesses rising
+earlier_rising b chip s new (Hop r port slot out) does rising = subst AreSucceeding does.accesses rising
+earlier_rising b chip s new (DataHop r port slot) does rising = subst AreSucceeding does.accesses rising
 earlier_rising b chip s new (DataEject r port slot) does rising = with_access_rising s.accesses (b.received does.msg does.unit).1
-    (subst AreRising does.accesses rising)
+    (subst AreSucceeding does.accesses rising)
 
 pub values_step : IsKept → MessageLaws → (b : Behaviour) (laws : KeepsLaws b) (d : Doc) (s new : ChipState) (event : Event) → DocLaws d → StateHolds b laws d s
-    → AreRising new.accesses → ValuesHold d s → step b (chip_of d) s event ≡ Some new → ValuesHold d new
+    → AreSucceeding new.accesses → ValuesHold d s → step b (chip_of d) s event ≡ Some new → ValuesHold d new
 values_step kept messages b laws d s new event fits holds rises values e =
     values_kept kept messages b laws d s new event fits holds
     (earlier_rising b (chip_of d) s new event (event_does b (chip_of d) s new event e) rises) rises values e
