@@ -47,8 +47,11 @@ pub mod HitValues
 pub mod DeliveredPrefixes
 pub mod CleanSteps
 pub mod CoreHits
+pub mod DoneAccesses
 pub mod CompletedAccesses
 pub mod EventReads
 pub mod InOrderHits
 pub mod ReachedValues
-pub mod DoneAccesses
+pub mod UnitNumbers
+pub mod TurnsKept
+pub mod ReachedTurns

@@ -57,6 +57,14 @@ pairs_last R (x ∷ xs) a all = (last xs all.0, pairs_last R xs a all.1) where
   last [] every = every.0
   last (y ∷ ys) every = last ys every.1
 
+-- and so it is with one more that has it with each
+pub pairs_push : (R : Access → Access → Type 0) (xs : List Access) (a : Access) → AllPairs R xs → AllByRecursion (λ b. R b a) xs → AllPairs R (xs ++ a ∷ [])
+pairs_push R [] a all last = (tt, tt)
+pairs_push R (x ∷ xs) a all last = (push xs all.0, pairs_push R xs a all.1 last.1) where
+  push : (ys : List Access) → AllByRecursion (R x) ys → AllByRecursion (R x) (ys ++ a ∷ [])
+  push [] every = (last.0, tt)
+  push (y ∷ ys) every = (every.0, push ys every.1)
+
 -- a later access of a tile counts more instructions, and is not earlier in time
 pub follows_by : (a b : Access) → (a.tile ≡ b.tile → (a.number < b.number) × (a.time ≤ b.time)) → Follows a b
 follows_by a b h same = let (number, time) = h same in grind (arith, nat_tests)

@@ -11,26 +11,24 @@ ghost use Rattle.chip_model.specs.BehaviourLaws.{KeepsLaws};
 ghost use Rattle.chip_model.specs.Values.{ValuesHold};
 ghost use Rattle.chip_laws.specs.DocFits.{DocFits};
 ghost use Rattle.supply_laws.specs.Reachable.{StateHolds};
-ghost use Rattle.value_laws.specs.Sequences.{AreSucceeding};
+ghost use Rattle.value_laws.specs.Numbers.{AreInTurn};
 ghost use Rattle.value_laws.specs.Reads.{AccessesHold};
 
 use crate::core_run_laws;
 
-/// The law of line values: before any event, after each event, and so in every state that a chip of in-order cores reaches.
-/// At run time it does nothing.
+/// The law of line values: before any event, after each event, and so in every state that a chip reaches, whatever its cores
+/// are. At run time it does nothing.
 pub fn kept_value_laws()
+    // Beside it each access comes in sequence after the writes that its tile performed before.
     ensures opened { (d : Doc) → ValuesHold d (opening d) }
-
-    // Whatever the cores are, each event keeps it, as long as each access comes in sequence after
-    // those that its tile has performed.
+    ensures turn { (d : Doc) → AreInTurn (opening d) }
     ensures kept { (b : Behaviour) (laws : KeepsLaws b) (d : Doc) (s new : ChipState)
-        (event : Event) → DocFits d → StateHolds b laws d s → AreSucceeding new.accesses
-        → ValuesHold d s → step b (chip_of d) s event ≡ Some new → ValuesHold d new }
-
-    ensures reached { (d : Doc) (events : List Event) (s : ChipState) → DocFits d
-        → run in_order (chip_of d) (opening d) events ≡ Some s → ValuesHold d s }
+        (event : Event) → DocFits d → StateHolds b laws d s → AreInTurn s → ValuesHold d s
+        → step b (chip_of d) s event ≡ Some new → AreInTurn new × ValuesHold d new }
+    ensures reached { (b : Behaviour) (laws : KeepsLaws b) (d : Doc) (events : List Event)
+        (s : ChipState) → DocFits d → run b (chip_of d) (opening d) events ≡ Some s
+        → AreInTurn s × ValuesHold d s }
 {
-    chip_laws::behaviour_laws();
     chip_laws::chip_network_laws();
     chip_laws::core_order_laws();
     supply_laws::reachable_laws();
