@@ -51,7 +51,7 @@ pub mod DoneAccesses
 pub mod CompletedAccesses
 pub mod EventReads
 pub mod InOrderHits
-pub mod ReachedValues
 pub mod UnitNumbers
 pub mod TurnsKept
 pub mod ReachedTurns
+pub mod ReachedValues

@@ -1,5 +1,5 @@
 -- In every state that a chip reaches, whatever its cores are, the accesses are in turn and all copies have their values.
-use Rattle.std.proofs.Common.{◌≡◌, ℕ, Some, List, [], ◌∷◌, slice_get, refl, sym, subst}
+use Rattle.std.proofs.Common.{◌≡◌, Some, List, [], ◌∷◌, refl, sym, subst}
 use Rattle.std.proofs.lemmas.Option.{same_Some}
 use Rattle.report_text.specs.declared.event.Event.{Event}
 use Rattle.doc_text.specs.Doc.{Doc}
@@ -21,11 +21,11 @@ use Rattle.chip_laws.proofs.RequestsInside.{tile_of}
 use Rattle.supply_laws.specs.Reachable.{StateHolds}
 use Rattle.supply_laws.proofs.NotedStates.{noted_state}
 use Rattle.supply_laws.proofs.ReachedStates.{IsKept, noted_after}
+use Rattle.value_laws.specs.Sequences.{AreSucceeding}
 use Rattle.value_laws.specs.Numbers.{StoresRise, AreInTurn}
 use Rattle.value_laws.proofs.SettledSteps.{OrdersNothing}
 use Rattle.value_laws.proofs.StayedValues.{same_values}
 use Rattle.value_laws.proofs.QuietValues.{no_change, node_kept_values}
-use Rattle.value_laws.proofs.OpenedValues.{values_opened}
 use Rattle.value_laws.proofs.EventFrames.{same_places}
 use Rattle.value_laws.proofs.EventValues.{values_after}
 use Rattle.value_laws.proofs.CoreHits.{accesses_keep_values}
@@ -43,18 +43,23 @@ turns_opened cores d = record {
 }
 
 -- an event
+pub values_kept : IsKept → MessageLaws → (b : Behaviour) (laws : KeepsLaws b) (d : Doc) (s new : ChipState) (event : Event) → DocLaws d
+    → StateHolds b laws d s → AreSucceeding s.accesses → AreSucceeding new.accesses → ValuesHold d s → step b (chip_of d) s event ≡ Some new
+    → ValuesHold d new
+values_kept kept messages b laws d s new event fits holds before behind values e =
+    values_after messages b laws d s new fits holds (kept b laws d s new event fits.doc holds e) before values
+    (accesses_keep_values b laws d s new holds.fit behind values) event (event_does b (chip_of d) s new event e)
+
 pub turn_kept : IsKept → MessageLaws → (b : Behaviour) (laws : KeepsLaws b) (d : Doc) (s new : ChipState) (event : Event) → DocLaws d
     → StateHolds b laws d s → AreInTurn s → ValuesHold d s → step b (chip_of d) s event ≡ Some new → AreInTurn new × ValuesHold d new
 turn_kept kept messages b laws d s new event fits holds turn values e =
-    let does = event_does b (chip_of d) s new event e in
-    let next = turns_after b laws d s new holds.protocol holds.fit turn event does in
-    (next, values_after messages b laws d s new fits holds (kept b laws d s new event fits.doc holds e) turn.succeed values
-    (accesses_keep_values b laws d s new holds.fit next.succeed values) event does)
+    let next = turns_after b laws d s new holds.protocol holds.fit turn event (event_does b (chip_of d) s new event e) in
+    (next, values_kept kept messages b laws d s new event fits holds turn.succeed next.succeed values e)
 
 -- it is noted
 module _ (b : Behaviour) (laws : KeepsLaws b) (d : Doc) (s : ChipState) (event : Event) (fits : DocFits d) (holds : StateHolds b laws d s) where
-  same : OrdersNothing d s (noted event s)
-  same = record {
+  pub orders_noted : OrdersNothing d s (noted event s)
+  orders_noted = record {
     before = holds.protocol;
     behind = (noted_state b laws d s event holds).protocol;
     answers = (noted_state b laws d s event holds).messages;
@@ -64,7 +69,7 @@ module _ (b : Behaviour) (laws : KeepsLaws b) (d : Doc) (s : ChipState) (event :
   pub values_noted : ValuesHold d s → ValuesHold d (noted event s)
   values_noted values =
       let tile = tile_of d s 0 holds.protocol (tiles_some d fits) in
-      node_kept_values d s (noted event s) same values 0 tile.unit tile.unit (no_change s (noted event s) 0 tile.unit tile.unit_at refl) refl
+      node_kept_values d s (noted event s) orders_noted values 0 tile.unit tile.unit (no_change s (noted event s) 0 tile.unit tile.unit_at refl) refl
       (same_values d s (noted event s) refl) values.channels
 
   turns_noted : AreInTurn s → AreInTurn (noted event s)

@@ -1,5 +1,5 @@
 -- Every event keeps the accesses in turn, whatever the cores are.
-use Rattle.std.proofs.Common.{◌≡◌, ℕ, ◌≤◌, ◌⊎◌, false, Option, Some, None, List, [], ◌∷◌, ◌++◌, slice_get, refl, sym, ap, ◌∙◌, subst, inl, inr, arith}
+use Rattle.std.proofs.Common.{◌≡◌, ℕ, ◌≤◌, ◌⊎◌, false, Option, Some, None, List, [], ◌∷◌, ◌++◌, slice_get, refl, sym, ◌∙◌, subst, inl, inr, arith}
 use Rattle.std.specs.Prelude.{IfSome}
 use Rattle.std.specs.List.{AllByRecursion}
 use Rattle.mesh_gen.specs.declared.port.Port.{Port}
@@ -12,9 +12,9 @@ use Rattle.chip_model.specs.declared.done.Done.{Done}
 use Rattle.chip_model.specs.Chip.{chip_of}
 use Rattle.chip_model.specs.Node.{Node, Performed, node_after_request, node_after_message, after_request_sent, after_message_sent}
 use Rattle.chip_model.specs.Units.{UnitState, Acted, Behaviour}
-use Rattle.chip_model.specs.ChipState.{ChipState, opening}
+use Rattle.chip_model.specs.ChipState.{ChipState}
 use Rattle.chip_model.specs.Events.{with_access}
-use Rattle.chip_model.specs.BehaviourLaws.{numbered, IsOfCore, Buffers, SameUnit, Answers, GoesOn, WorksAlone, TriesAccess, Works, KeepsLaws}
+use Rattle.chip_model.specs.BehaviourLaws.{IsOfCore, Buffers, Answers, WorksAlone, Works, KeepsLaws}
 use Rattle.chip_model.specs.Writers.{latest_time}
 use Rattle.chip_model.specs.ChipInvariant.{ProtocolHolds}
 use Rattle.chip_laws.specs.EventSteps.{ChangesUnit, CoreWorks, RequestComes, MessageComes, EventDoes}

@@ -1,12 +1,12 @@
 -- A step of a unit keeps how its accesses and its buffered stores are numbered, and its access succeeds those before it.
-use Rattle.std.proofs.Common.{◌≡◌, ◌≢◌, ℕ, ◌<◌, ◌≤◌, ◌⊎◌, Bool, true, false, Some, List, [], ◌∷◌, ◌++◌, slice_get, sym, ap, ◌∙◌, subst, inl, inr, arith}
+use Rattle.std.proofs.Common.{◌≡◌, ◌≢◌, ℕ, ◌<◌, ◌≤◌, true, List, [], ◌∷◌, ◌++◌, slice_get, sym, ap, ◌∙◌, subst, inl, inr, arith}
 use Rattle.std.specs.List.{AllByRecursion}
 use Rattle.std.proofs.lemmas.Bool.{cases_eq, cases_lt, false_from_ne_true}
 use Rattle.core_isa.proofs.Elements.{AllByRecursion-map}
 use Rattle.report_text.specs.declared.access.Access.{Access}
 use Rattle.chip_model.specs.Units.{UnitState, BufferedStore}
-use Rattle.chip_model.specs.BehaviourLaws.{IsOfCore, IsOfNext, IsOldestStore, Buffers}
-use Rattle.chip_model.specs.Witness.{is_before, is_write}
+use Rattle.chip_model.specs.BehaviourLaws.{IsOfCore, IsOfNext, Buffers}
+use Rattle.chip_model.specs.Witness.{is_write}
 use Rattle.chip_laws.proofs.Each.{each_at, each_from, each_append}
 use Rattle.chip_laws.proofs.Options.{none_some}
 use Rattle.value_laws.specs.Sequences.{Succeeds}

@@ -1,5 +1,4 @@
 use Rattle.chip_model.specs.ChipState.{opening}
-use Rattle.chip_model.specs.ChipInvariant.{ProtocolHolds}
 use Rattle.value_laws.proofs.ReachedValues.{state_opened, state_kept, state_reached, numbers_apart, accesses_hold, of_accesses}
 use Rattle.value_laws.proofs.values.reached_access_laws.Goals as goal
 
