@@ -22,7 +22,7 @@ use Rattle.chip_model.specs.Writers.{IsSettled, OthersSettled}
 use Rattle.chip_model.specs.ChipInvariant.{ProtocolHolds}
 use Rattle.chip_laws.proofs.Each.{each_from}
 use Rattle.value_laws.specs.Sequences.{Succeeds}
-use Rattle.value_laws.proofs.Sequences.{all_succeed}
+use Rattle.value_laws.proofs.Sequences.{before_time, all_succeed}
 use Rattle.value_laws.proofs.LineValues.{Counts}
 use Rattle.value_laws.proofs.Passing.{wrote, next_settled}
 use Rattle.value_laws.proofs.OnlyWriters.{Only, only_getm, only_gets}
@@ -50,9 +50,6 @@ received_word access Swap unit time number words is reads_it = rw is refl
 received_word access Add unit time number words is reads_it = rw is refl
 
 -- ---- accesses by time
-
-pub before_time : (a b : Access) → a.time < b.time → is_before a b ≡ true
-before_time a b less = grind (arith, nat_tests)
 
 pub behind_time : (a b : Access) → b.time < a.time → is_before a b ≡ false
 behind_time a b less = grind (arith, nat_tests)

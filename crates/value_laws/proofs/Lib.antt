@@ -31,6 +31,7 @@ pub mod CompletedValues
 pub mod Snooping
 pub mod ArrivedValues
 pub mod OwnCompletedValues
+pub mod CleanSteps
 pub mod SnoopedValues
 pub mod EventFrames
 pub mod NodeEvents
@@ -45,7 +46,6 @@ pub mod OpenedValues
 pub mod HitAccesses
 pub mod HitValues
 pub mod DeliveredPrefixes
-pub mod CleanSteps
 pub mod CoreHits
 pub mod DoneAccesses
 pub mod CompletedAccesses

@@ -25,6 +25,10 @@ before_asym a b e = grind (arith, nat_tests)
 pub before_between : (a b c : Access) → is_before b a ≡ false → is_before b c ≡ true → is_before a c ≡ true
 before_between a b c fails passes = grind (arith, nat_tests)
 
+-- an access at an earlier time comes before
+pub before_time : (a b : Access) → a.time < b.time → is_before a b ≡ true
+before_time a b less = grind (arith, nat_tests)
+
 pub one_before : (a b : Access) → Succeeds a b → is_before b a ≡ false → is_before a b ≡ true
 one_before a b succeeds fails = elim (cases_eq a.tile b.tile) [
   | inl same ↦ elim (succeeds same) [ inl first ↦ first | inr second ↦ absurd (false≢true (sym fails ∙ second.0)) ]

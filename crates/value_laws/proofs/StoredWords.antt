@@ -26,8 +26,8 @@ use Rattle.chip_laws.proofs.OrderFrames.{known_of}
 use Rattle.chip_laws.proofs.OwnerFolds.{reads_only, all_read}
 use Rattle.chip_laws.proofs.SuppliedEvents.{unit_holds}
 use Rattle.value_laws.specs.Sequences.{AreSucceeding}
-use Rattle.value_laws.proofs.Sequences.{all_succeed}
-use Rattle.value_laws.proofs.Completion.{Completion, at_line, write_asks, with_access, own_before, follows, before_time}
+use Rattle.value_laws.proofs.Sequences.{before_time, all_succeed}
+use Rattle.value_laws.proofs.Completion.{Completion, at_line, write_asks, with_access, own_before, follows}
 use Rattle.value_laws.proofs.LineValues.{value_written, value_same}
 use Rattle.value_laws.proofs.OnlyWriters.{Only, AsksOnly, only_none, only_getm, only_gets, only_until}
 use Rattle.value_laws.proofs.PlacesOn.{value_until}

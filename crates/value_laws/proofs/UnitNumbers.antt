@@ -11,8 +11,7 @@ use Rattle.chip_laws.proofs.Each.{each_at, each_from, each_append}
 use Rattle.chip_laws.proofs.Options.{none_some}
 use Rattle.value_laws.specs.Sequences.{Succeeds}
 use Rattle.value_laws.specs.Numbers.{StoresRise, IsApart, NumbersHold}
-use Rattle.value_laws.proofs.Sequences.{follows_by}
-use Rattle.value_laws.proofs.Completion.{before_time}
+use Rattle.value_laws.proofs.Sequences.{before_time, follows_by}
 
 -- ---- stores
 
