@@ -24,9 +24,11 @@ rise_on n m (x ∷ xs) more rise =
 rise_push : (n m : ℕ) (xs : List BufferedStore) (x : BufferedStore) → x.number ≡ n → n < m → StoresRise n xs → StoresRise m (xs ++ x ∷ [])
 rise_push n m [] x is more rise = (omega (arith, is, more), tt, tt)
 rise_push n m (y ∷ ys) x is more rise =
-    let below = rise.0 in
-    (omega (arith, below, more), each_append (λ (z : BufferedStore). y.number < z.number) ys (x ∷ []) rise.1 (omega (arith, below, is), tt),
-    rise_push n m ys x is more rise.2)
+    let below = rise.0 in (
+      omega (arith, below, more),
+      each_append (λ (z : BufferedStore). y.number < z.number) ys (x ∷ []) rise.1 (omega (arith, below, is), tt),
+      rise_push n m ys x is more rise.2,
+    )
 
 rise_below : (n : ℕ) (xs : List BufferedStore) → StoresRise n xs → AllByRecursion (λ (x : BufferedStore). x.number < n) xs
 rise_below n [] rise = tt
@@ -39,8 +41,9 @@ succeed_by b a time differ write tile = elim (cases_lt b.number a.number) [
   | inl less ↦ inl (follows_by b a (λ own. (less, time)) tile)
   | inr more ↦ elim (cases_eq b.time a.time) [
     | inl same ↦ inr (
-        follows_by a b (λ own. (omega (arith, more, differ), omega (arith, same))) (sym tile),
-        false_from_ne_true (is_write b) (λ writes_it. let less = write writes_it in absurd (omega (arith, less, more))))
+      follows_by a b (λ own. (omega (arith, more, differ), omega (arith, same))) (sym tile),
+      false_from_ne_true (is_write b) (λ writes_it. let less = write writes_it in absurd (omega (arith, less, more))),
+    )
     | inr other ↦ inl (before_time b a (omega (arith, time, other)))
   ]
 ]
@@ -82,9 +85,10 @@ module _ (t : ℕ) (old new : UnitState) (xs : List Access) (is : NumbersHold xs
   next_apart : (a : Access) → IsOfNext old new a → AllByRecursion (IsApart a) old.buffered
   next_apart a next =
       each_from (IsApart a) old.buffered (λ k x at.
-      let below = each_at (λ (y : BufferedStore). y.number < old.core.steps) old.buffered k x (rise_below old.core.steps old.buffered is.stores) at in
-      (omega (arith, below, next.number),
-      (λ write. none_some x (ap (λ (stores : List BufferedStore). slice_get stores k) (sym (next.writes_last write)) ∙ at))))
+      let below = each_at (λ (y : BufferedStore). y.number < old.core.steps) old.buffered k x (rise_below old.core.steps old.buffered is.stores) at in (
+        omega (arith, below, next.number),
+        (λ write. none_some x (ap (λ (stores : List BufferedStore). slice_get stores k) (sym (next.writes_last write)) ∙ at)),
+      ))
 
   pub numbers_of : (a : Access) → IsOfCore old new a → NumbersHold (xs ++ a ∷ []) t new
   numbers_of a (inl next) =
@@ -103,9 +107,11 @@ module _ (t : ℕ) (old new : UnitState) (xs : List Access) (is : NumbersHold xs
         stores = rise_on old.core.steps new.core.steps new.buffered steps rise.2;
         apart = each_append (λ x. x.tile ≡ t → AllByRecursion (IsApart x) new.buffered) xs (a ∷ [])
             (apart_on new.buffered (λ b apart less.
-            (subst (AllByRecursion (IsApart b)) oldest.buffered apart).1))
-            ((λ own. AllByRecursion-map (λ (y : BufferedStore). oldest.store.number < y.number) (IsApart a)
-            (λ y after. (omega (arith, after, oldest.number), (λ write. omega (arith, after, oldest.number)))) new.buffered rise.1), tt);
+            (subst (AllByRecursion (IsApart b)) oldest.buffered apart).1)) (
+              (λ own. AllByRecursion-map (λ (y : BufferedStore). oldest.store.number < y.number) (IsApart a)
+                  (λ y after. (omega (arith, after, oldest.number), (λ write. omega (arith, after, oldest.number)))) new.buffered rise.1),
+              tt,
+            );
       }
 
   -- which succeeds those of its tile
