@@ -125,9 +125,6 @@ message_performs : (msg : Msg) (node : Node) (one : Done) → DataFits node.side
 unfolding node_after_message
 message_performs msg node one fits done = kind_performs msg node one msg.kind refl fits done
 
-pub message_is_data : (msg : Msg) (node : Node) (one : Done) → DataFits node.side msg → (node_after_message msg node).1 ≡ Some one → msg.kind ≡ Data
-message_is_data msg node one fits done = (message_performs msg node one fits done).kind
-
 words_node : (msg : Msg) (node : Node) → msg.kind ≡ Data → (node_after_message msg node).0 ≡ (words_arrived node msg.words).0
 unfolding node_after_message
 words_node msg node kind = ap (λ (k : MsgKind). (arrived_as msg node k).0) kind

@@ -110,7 +110,8 @@ module _ (d : Doc) (s new : ChipState) (e : OrdersNothing d s new) (reads : Read
       let lines : unit.node.chip.lines ≡ d.lines = ap (λ (x : Chip). x.lines) (unit_holds d s t unit e.before c.at).holds.node.chip in
       let inside : line_of is.access.address < d.lines =
       subst (λ (l : ℕ). l < d.lines) (sym (at_line d s new t unit after e.before is)) (subst (λ (n : ℕ). is.demand.line < n) lines within) in
-      reads_performed d s new e t unit after c (completion_keeps d s new e t unit after c is (all_succeeding s.accesses rising)) reads is.access is.place is.words
+      reads_performed d s new e t unit after c (completion_keeps d s new e t unit after c is
+          (all_succeeding s.accesses rising)) reads is.access is.place is.words
       (completion_acts d s new t unit after e.before is number by.same) (follows d s new t unit after e.before is) is.accesses fits.doc inside
 
   -- with one that hits
@@ -237,7 +238,8 @@ module _ (messages : MessageLaws) (b : Behaviour) (laws : KeepsLaws b) (d : Doc)
         some_answer does.unit (b.received does.msg does.unit).0 (node_after_message does.msg does.unit.node).1
         (b.received does.msg does.unit).1 one some goes.answers in
         completes d s new e reads t does.unit (b.received does.msg does.unit).0 does.changes fits rising number
-        (message_completes d s new e values (all_succeeding s.accesses rising) t does.unit (b.received does.msg does.unit).0 does.changes does.msg awaited answers goes.node one some number
+        (message_completes d s new e values (all_succeeding s.accesses rising) t does.unit
+            (b.received does.msg does.unit).0 does.changes does.msg awaited answers goes.node one some number
         (one_noted s new (b.received does.msg does.unit).1 (numbered does.unit one number) does.accesses answer))
 
   pub reads_after : (event : Event) → EventDoes b (chip_of d) s new event → ReadsHold d new

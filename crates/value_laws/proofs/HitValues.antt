@@ -45,7 +45,8 @@ lookup_written chip cache held words line m there =
     lookup-installed chip cache (record held { words = words }) m (fits_held chip cache held.line (ap is_some at))
     ∙ ap (λ (l : ℕ). if m == l then Some (record held { words = words }) else lookup chip cache m) same
 
-module _ (d : Doc) (s new : ChipState) (e : OrdersNothing d s new) (values : ValuesHold d s) (rising : AreSucceeding s.accesses) (t : ℕ) (unit after : UnitState)
+module _ (d : Doc) (s new : ChipState) (e : OrdersNothing d s new) (values : ValuesHold d s) (rising : AreSucceeding s.accesses) (t : ℕ)
+    (unit after : UnitState)
     (c : ChangesUnit s new t unit after) (access : Pending) (step : Performed) (hit : Hit access unit.node step) (number : ℕ) (node : after.node ≡ step.0)
     (follows : AllByRecursion (λ b. Succeeds b (numbered unit (done_by access unit.node.delivered hit.held.words) number)) s.accesses)
     (accesses : new.accesses ≡ s.accesses ++ numbered unit (done_by access unit.node.delivered hit.held.words) number ∷ []) where

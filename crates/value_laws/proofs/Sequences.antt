@@ -98,7 +98,8 @@ pub each_in_sequence : (P : Access → Type 0) (xs : List Access) → AllByRecur
 each_in_sequence P [] all = tt
 each_in_sequence P (a ∷ xs) all = each_inserted P a (in_sequence xs) all.0 (each_in_sequence P xs all.1)
 
-in_order_by : (a b : Access) (xs : List Access) (t : Bool) → is_before b a ≡ t → Succeeds a b → AllByRecursion (Succeeds a) xs → InOrder (b ∷ xs) → InOrder (inserted a xs)
+in_order_by : (a b : Access) (xs : List Access) (t : Bool) → is_before b a ≡ t → Succeeds a b → AllByRecursion (Succeeds a) xs → InOrder (b ∷ xs)
+    → InOrder (inserted a xs)
     → InOrder (cond t (b ∷ inserted a xs) (a ∷ b ∷ xs))
 in_order_by a b xs true e one all order rest = (each_inserted (λ y. is_before b y ≡ true) a xs e order.0, rest)
 in_order_by a b xs false e one all order rest =
@@ -130,7 +131,8 @@ before_is (b ∷ before) rest a order =
 
 -- ---- a tile's own accesses
 
-own_by : (t : ℕ) (a b : Access) (xs : List Access) (c : Bool) → is_before b a ≡ c → a.tile ≡ t → Follows a b → accesses_of t (inserted a xs) ≡ a ∷ accesses_of t xs
+own_by : (t : ℕ) (a b : Access) (xs : List Access) (c : Bool) → is_before b a ≡ c → a.tile ≡ t → Follows a b
+    → accesses_of t (inserted a xs) ≡ a ∷ accesses_of t xs
     → accesses_of t (cond c (b ∷ inserted a xs) (a ∷ b ∷ xs)) ≡ a ∷ accesses_of t (b ∷ xs)
 own_by t a b xs false e own follows rest = own_first t a (b ∷ xs) own
 own_by t a b xs true e own follows rest =

@@ -56,7 +56,8 @@ module _ (t : ℕ) (old new : UnitState) (xs : List Access) (is : NumbersHold xs
       AllByRecursion-map (λ a. a.tile ≡ t → a.number < old.core.steps) (λ a. a.tile ≡ t → a.number < new.core.steps)
       (λ a less own. let below = less own in omega (arith, below, steps)) xs is.early
 
-  apart_on : (stores : List BufferedStore) → ((a : Access) → AllByRecursion (IsApart a) old.buffered → a.number < old.core.steps → AllByRecursion (IsApart a) stores)
+  apart_on : (stores : List BufferedStore) → ((a : Access) → AllByRecursion (IsApart a) old.buffered → a.number < old.core.steps → AllByRecursion
+      (IsApart a) stores)
       → AllByRecursion (λ a. a.tile ≡ t → AllByRecursion (IsApart a) stores) xs
   apart_on stores on =
       each_from (λ a. a.tile ≡ t → AllByRecursion (IsApart a) stores) xs (λ i a at own.
@@ -115,7 +116,8 @@ module _ (t : ℕ) (old new : UnitState) (xs : List Access) (is : NumbersHold xs
       }
 
   -- which succeeds those of its tile
-  pub succeeds_all : (a : Access) → a.tile ≡ t → IsOfCore old new a → AllByRecursion (λ b. b.tile ≡ t → b.time ≤ a.time) xs → AllByRecursion (λ b. Succeeds b a) xs
+  pub succeeds_all : (a : Access) → a.tile ≡ t → IsOfCore old new a → AllByRecursion (λ b. b.tile ≡ t → b.time ≤ a.time) xs
+      → AllByRecursion (λ b. Succeeds b a) xs
   succeeds_all a tile of_core times =
       each_from (λ b. Succeeds b a) xs (λ i b at same.
       let own : b.tile ≡ t = same ∙ tile in
