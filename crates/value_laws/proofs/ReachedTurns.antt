@@ -1,5 +1,7 @@
 -- In every state that a chip reaches, whatever its cores are, the accesses are in turn and all copies have their values.
-use Rattle.std.proofs.Common.{◌≡◌, Some, List, [], ◌∷◌, refl, sym, subst}
+use Rattle.std.proofs.Common.{◌≡◌, ◌≢◌, ℕ, ◌<◌, zero, suc, Some, List, [], ◌∷◌, slice_get, refl, sym, subst, inl, inr, arith}
+use Rattle.std.proofs.lemmas.Bool.{cases_lt}
+use Rattle.report_text.specs.declared.access.Access.{Access}
 use Rattle.std.proofs.lemmas.Option.{same_Some}
 use Rattle.report_text.specs.declared.event.Event.{Event}
 use Rattle.doc_text.specs.Doc.{Doc}
@@ -15,13 +17,14 @@ use Rattle.chip_laws.specs.DocFits.{DocFits}
 use Rattle.chip_laws.specs.DocLaws.{DocLaws}
 use Rattle.chip_laws.specs.MessageLaws.{MessageLaws}
 use Rattle.chip_laws.proofs.EventSteps.{event_does}
-use Rattle.chip_laws.proofs.Options.{bind}
+use Rattle.chip_laws.proofs.Each.{each_at}
+use Rattle.chip_laws.proofs.Options.{none_some, bind}
 use Rattle.chip_laws.proofs.OrderedTiles.{tiles_some}
 use Rattle.chip_laws.proofs.RequestsInside.{tile_of}
 use Rattle.supply_laws.specs.Reachable.{StateHolds}
 use Rattle.supply_laws.proofs.NotedStates.{noted_state}
 use Rattle.supply_laws.proofs.ReachedStates.{IsKept, noted_after}
-use Rattle.value_laws.specs.Sequences.{AreSucceeding}
+use Rattle.value_laws.specs.Sequences.{AllPairs, Differs, AreSucceeding}
 use Rattle.value_laws.specs.Numbers.{StoresRise, AreInTurn}
 use Rattle.value_laws.proofs.SettledSteps.{OrdersNothing}
 use Rattle.value_laws.proofs.StayedValues.{same_values}
@@ -35,6 +38,7 @@ use Rattle.value_laws.proofs.TurnsKept.{turns_after}
 pub turns_opened : ((d : Doc) → CoresInOrder (opening d)) → (d : Doc) → AreInTurn (opening d)
 turns_opened cores d = record {
   succeed = tt;
+  differ = tt;
   numbers = λ t unit at. record {
     early = tt;
     stores = subst (λ (xs : List BufferedStore). StoresRise unit.core.steps xs) (sym (cores d t unit at).unbuffered) tt;
@@ -50,11 +54,14 @@ values_kept kept messages b laws d s new event fits holds before behind values e
     values_after messages b laws d s new fits holds (kept b laws d s new event fits.doc holds e) before values
     (accesses_keep_values b laws d s new holds.fit behind values) event (event_does b (chip_of d) s new event e)
 
-pub turn_kept : IsKept → MessageLaws → (b : Behaviour) (laws : KeepsLaws b) (d : Doc) (s new : ChipState) (event : Event) → DocLaws d
-    → StateHolds b laws d s → AreInTurn s → ValuesHold d s → step b (chip_of d) s event ≡ Some new → AreInTurn new × ValuesHold d new
-turn_kept kept messages b laws d s new event fits holds turn values e =
-    let next = turns_after b laws d s new holds.protocol holds.fit turn event (event_does b (chip_of d) s new event e) in
-    (next, values_kept kept messages b laws d s new event fits holds turn.succeed next.succeed values e)
+pub turn_kept : (b : Behaviour) (laws : KeepsLaws b) (d : Doc) (s new : ChipState) (event : Event) → StateHolds b laws d s → AreInTurn s
+    → step b (chip_of d) s event ≡ Some new → AreInTurn new
+turn_kept b laws d s new event holds turn e = turns_after b laws d s new holds.protocol holds.fit turn event (event_does b (chip_of d) s new event e)
+
+pub values_in_turn : IsKept → MessageLaws → (b : Behaviour) (laws : KeepsLaws b) (d : Doc) (s new : ChipState) (event : Event) → DocLaws d
+    → StateHolds b laws d s → AreInTurn s → ValuesHold d s → step b (chip_of d) s event ≡ Some new → ValuesHold d new
+values_in_turn kept messages b laws d s new event fits holds turn values e =
+    values_kept kept messages b laws d s new event fits holds turn.succeed (turn_kept b laws d s new event holds turn e).succeed values e
 
 -- it is noted
 module _ (b : Behaviour) (laws : KeepsLaws b) (d : Doc) (s : ChipState) (event : Event) (fits : DocFits d) (holds : StateHolds b laws d s) where
@@ -73,7 +80,7 @@ module _ (b : Behaviour) (laws : KeepsLaws b) (d : Doc) (s : ChipState) (event :
       (same_values d s (noted event s) refl) values.channels
 
   turns_noted : AreInTurn s → AreInTurn (noted event s)
-  turns_noted turn = record { succeed = turn.succeed; numbers = turn.numbers }
+  turns_noted turn = record { succeed = turn.succeed; differ = turn.differ; numbers = turn.numbers }
 
 -- a run
 pub turns_reached : IsKept → MessageLaws → (b : Behaviour) (laws : KeepsLaws b) (d : Doc) (events : List Event) (s last : ChipState) → DocLaws d
@@ -85,8 +92,28 @@ turns_reached kept messages b laws d (event ∷ events) s last fits holds turn v
     bind (after b (chip_of d) s event) (λ new. run b (chip_of d) new events) last e (λ new first rest.
     let (left, stepped, noted_is) = noted_after b (chip_of d) s new event first in
     let behind = kept b laws d s left event fits.doc holds stepped in
-    let next = turn_kept kept messages b laws d s left event fits holds turn values stepped in
+    let next = turn_kept b laws d s left event holds turn stepped in
+    let left_values = values_in_turn kept messages b laws d s left event fits holds turn values stepped in
     turns_reached kept messages b laws d events new last fits
     (subst (StateHolds b laws d) noted_is (noted_state b laws d left event behind))
-    (subst AreInTurn noted_is (turns_noted b laws d left event fits.doc behind next.0))
-    (subst (ValuesHold d) noted_is (values_noted b laws d left event fits.doc behind next.1)) rest)
+    (subst AreInTurn noted_is (turns_noted b laws d left event fits.doc behind next))
+    (subst (ValuesHold d) noted_is (values_noted b laws d left event fits.doc behind left_values)) rest)
+
+-- ---- one instruction each
+
+-- what is so for each pair is so for two places
+pairs_at : (R : Access → Access → Type 0) (xs : List Access) (i j : ℕ) (a b : Access) → AllPairs R xs → i < j → slice_get xs i ≡ Some a
+    → slice_get xs j ≡ Some b → R a b
+pairs_at R [] i j a b all less here there = none_some a here
+pairs_at R (x ∷ xs) zero zero a b all less here there = absurd (omega (arith, less))
+pairs_at R (x ∷ xs) zero (suc j) a b all less here there = subst (λ (y : Access). R y b) (same_Some x a here) (each_at (R x) xs j b all.0 there)
+pairs_at R (x ∷ xs) (suc i) zero a b all less here there = absurd (omega (arith, less))
+pairs_at R (x ∷ xs) (suc i) (suc j) a b all less here there = pairs_at R xs i j a b all.1 (omega (arith, less)) here there
+
+-- no two accesses are of one instruction
+pub numbers_apart : (s : ChipState) → AreInTurn s → (i j : ℕ) (a b : Access) → i ≢ j → slice_get s.accesses i ≡ Some a
+    → slice_get s.accesses j ≡ Some b → a.tile ≡ b.tile → a.number ≢ b.number
+numbers_apart s turn i j a b away here there tile number = elim (cases_lt i j) [
+  | inl before ↦ absurd (pairs_at Differs s.accesses i j a b turn.differ before here there tile number)
+  | inr beyond ↦ absurd (pairs_at Differs s.accesses j i b a turn.differ (omega (arith, beyond, away)) there here (sym tile) (sym number))
+]

@@ -1,10 +1,7 @@
 -- In every state that a chip of in-order cores reaches all copies have their values, and each read received what was written
 -- last before it.
-use Rattle.std.proofs.Common.{◌≡◌, ◌≢◌, ℕ, Some, List, [], ◌∷◌, refl, sym, subst, inl, inr, arith}
-use Rattle.std.specs.Prelude.{slice_get}
-use Rattle.std.proofs.lemmas.Bool.{cases_lt}
+use Rattle.std.proofs.Common.{◌≡◌, Some, List, [], ◌∷◌, refl, subst}
 use Rattle.std.proofs.lemmas.Option.{same_Some}
-use Rattle.report_text.specs.declared.access.Access.{Access}
 use Rattle.report_text.specs.declared.event.Event.{Event}
 use Rattle.doc_text.specs.Doc.{Doc}
 use Rattle.chip_model.specs.Chip.{chip_of}
@@ -14,7 +11,7 @@ use Rattle.chip_model.specs.Events.{step}
 use Rattle.chip_model.specs.Runs.{noted, after, run}
 use Rattle.chip_model.specs.BehaviourLaws.{KeepsLaws}
 use Rattle.chip_model.specs.Values.{ValuesHold}
-use Rattle.chip_model.specs.ChipInvariant.{CoresInOrder, ProtocolHolds}
+use Rattle.chip_model.specs.ChipInvariant.{CoresInOrder}
 use Rattle.chip_laws.specs.DocFits.{DocFits}
 use Rattle.chip_laws.specs.DocLaws.{DocLaws}
 use Rattle.chip_laws.specs.MessageLaws.{MessageLaws}
@@ -87,23 +84,6 @@ state_reached kept in_turn messages laws d (event ∷ events) s last fits is e =
     let (left, stepped, noted_is) = noted_after in_order (chip_of d) s new event first in
     let next = state_kept kept in_turn messages laws d s left event fits is stepped in
     state_reached kept in_turn messages laws d events new last fits (subst (InOrderState laws d) noted_is (noted_holds laws d left event fits.doc next)) rest)
-
--- ---- one instruction each
-
--- no two accesses are of one instruction
-pub numbers_apart : (d : Doc) (s : ChipState) → ProtocolHolds d s → CoresInOrder s → (i j : ℕ) (a b : Access) → i ≢ j → slice_get s.accesses i ≡ Some a
-    → slice_get s.accesses j ≡ Some b
-    → a.tile ≡ b.tile → a.number ≢ b.number
-numbers_apart d s holds cores i j a b away here there tile number = elim (cases_lt i j) [
-  | inl before ↦ (
-      let own = tile_of d s a.tile holds (holds.performers i a here) in
-      let less = ((cores a.tile own.unit own.unit_at).rising i j a b before here there refl (sym tile)).0 in
-      absurd (omega (arith, less, number)))
-  | inr beyond ↦ (
-      let own = tile_of d s a.tile holds (holds.performers i a here) in
-      let less = ((cores a.tile own.unit own.unit_at).rising j i b a (omega (arith, beyond, away)) there here (sym tile) refl).0 in
-      absurd (omega (arith, less, number)))
-]
 
 -- ---- what the laws say
 

@@ -23,10 +23,10 @@ use Rattle.chip_laws.proofs.DoneTimes.{delivered_time, arrived_time, accessed_ti
 use Rattle.chip_laws.proofs.Each.{each_from}
 use Rattle.chip_laws.proofs.InOrderEvents.{UnitIs, unit_is}
 use Rattle.chip_laws.proofs.UnitFrames.{each_unit, same_units}
-use Rattle.value_laws.specs.Sequences.{Succeeds, AreSucceeding}
+use Rattle.value_laws.specs.Sequences.{AllPairs, Differs, Succeeds, AreSucceeding}
 use Rattle.value_laws.specs.Numbers.{NumbersHold, AreInTurn}
 use Rattle.value_laws.proofs.Sequences.{pairs_push}
-use Rattle.value_laws.proofs.UnitNumbers.{numbers_same, numbers_buffers, numbers_of, succeeds_all, numbers_away}
+use Rattle.value_laws.proofs.UnitNumbers.{numbers_same, numbers_buffers, numbers_of, succeeds_all, differs_all, numbers_away}
 
 -- ---- what a unit answers
 
@@ -67,15 +67,16 @@ module _ (s new : ChipState) (turn : AreInTurn s) (t : ℕ) (unit after : UnitSt
 
   pub unit_turns : (answer : Option Access) → new.accesses ≡ with_access answer s.accesses → Turns s t unit after answer → AreInTurn new
   unit_turns answer accesses does = by answer accesses does where
-    all : (xs : List Access) → new.accesses ≡ xs → AreSucceeding xs → ((u : ℕ) (x : UnitState) → slice_get new.units u ≡ Some x → NumbersHold xs u x)
-        → AreInTurn new
-    all xs e succeed numbers = record {
+    all : (xs : List Access) → new.accesses ≡ xs → AreSucceeding xs → AllPairs Differs xs
+        → ((u : ℕ) (x : UnitState) → slice_get new.units u ≡ Some x → NumbersHold xs u x) → AreInTurn new
+    all xs e succeed differ numbers = record {
       succeed = subst AreSucceeding (sym e) succeed;
+      differ = subst (AllPairs Differs) (sym e) differ;
       numbers = λ u x at. subst (λ (l : List Access). NumbersHold l u x) (sym e) (numbers u x at);
     }
 
     none : NumbersHold s.accesses t after → new.accesses ≡ s.accesses → AreInTurn new
-    none here e = all s.accesses e turn.succeed
+    none here e = all s.accesses e turn.succeed turn.differ
         (each_unit (NumbersHold s.accesses) s new t unit after c here (λ u other away at. turn.numbers u other at))
 
     by : (o : Option Access) → new.accesses ≡ with_access o s.accesses → Turns s t unit after o → AreInTurn new
@@ -84,6 +85,7 @@ module _ (s new : ChipState) (turn : AreInTurn s) (t : ℕ) (unit after : UnitSt
     by (Some a) e (tile, of_core, times) =
         all (s.accesses ++ a ∷ []) e
         (pairs_push Succeeds s.accesses a turn.succeed (succeeds_all t unit after s.accesses own steps a tile of_core times))
+        (pairs_push Differs s.accesses a turn.differ (differs_all t unit after s.accesses own steps a tile of_core))
         (each_unit (NumbersHold (s.accesses ++ a ∷ [])) s new t unit after c (numbers_of t unit after s.accesses own steps a of_core)
         (λ u other away at. numbers_away s.accesses a t u other tile away (turn.numbers u other at)))
 
@@ -91,6 +93,7 @@ module _ (s new : ChipState) (turn : AreInTurn s) (t : ℕ) (unit after : UnitSt
 pub same_turns : (s new : ChipState) → AreInTurn s → new.units ≡ s.units → new.accesses ≡ s.accesses → AreInTurn new
 same_turns s new turn units accesses = record {
   succeed = subst AreSucceeding (sym accesses) turn.succeed;
+  differ = subst (AllPairs Differs) (sym accesses) turn.differ;
   numbers = same_units (NumbersHold new.accesses) s new units
       (λ u other at. subst (λ (xs : List Access). NumbersHold xs u other) (sym accesses) (turn.numbers u other at));
 }

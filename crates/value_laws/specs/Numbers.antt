@@ -5,7 +5,7 @@ use Rattle.report_text.specs.declared.access.Access.{Access}
 use Rattle.chip_model.specs.Units.{UnitState, BufferedStore}
 use Rattle.chip_model.specs.ChipState.{ChipState}
 use Rattle.chip_model.specs.Witness.{is_write}
-use Rattle.value_laws.specs.Sequences.{AreSucceeding}
+use Rattle.value_laws.specs.Sequences.{AllPairs, Differs, AreSucceeding}
 
 -- stores of instructions below a number, each later one of a later instruction
 abbrev pub StoresRise : ℕ → List BufferedStore → Type 0
@@ -22,7 +22,9 @@ pub record NumbersHold (xs : List Access) (t : ℕ) (unit : UnitState) : Type 0 
   pub stores : StoresRise unit.core.steps unit.buffered
   pub apart : AllByRecursion (λ a. a.tile ≡ t → AllByRecursion (IsApart a) unit.buffered) xs
 
--- each access comes after the writes that its tile performed before, and will where it is buffered
+-- each access comes after the writes that its tile performed before, also where it is still buffered; each is of another
+-- instruction
 pub record AreInTurn (s : ChipState) : Type 0 where
   pub succeed : AreSucceeding s.accesses
+  pub differ : AllPairs Differs s.accesses
   pub numbers : (t : ℕ) (unit : UnitState) → slice_get s.units t ≡ Some unit → NumbersHold s.accesses t unit

@@ -1,5 +1,5 @@
 -- Which accesses of a tile come later in sequence: all as it performed them, or its writes.
-use Rattle.std.specs.Prelude.{◌≡◌, ◌⊎◌, true, false, List, [], ◌∷◌}
+use Rattle.std.specs.Prelude.{◌≡◌, ◌≢◌, ◌⊎◌, true, false, List, [], ◌∷◌}
 use Rattle.std.specs.List.{AllByRecursion}
 use Rattle.report_text.specs.declared.access.Access.{Access}
 use Rattle.chip_model.specs.Witness.{is_before, is_write}
@@ -24,3 +24,7 @@ Succeeds a b = a.tile ≡ b.tile → (is_before a b ≡ true) ⊎ ((is_before b 
 -- each access succeeds those before it in the list: no access comes before a write that its tile performed earlier
 abbrev pub AreSucceeding : List Access → Type 0
 AreSucceeding xs = AllPairs Succeeds xs
+
+-- the second is of another tile, or of another instruction
+abbrev pub Differs : Access → Access → Type 0
+Differs a b = a.tile ≡ b.tile → a.number ≢ b.number

@@ -1,5 +1,4 @@
-ghost use Rattle.std.specs.Prelude.{◌≡◌, ◌≢◌, ℕ, List, Some, slice_get};
-ghost use Rattle.report_text.specs.declared.access.Access.{Access};
+ghost use Rattle.std.specs.Prelude.{◌≡◌, List, Some};
 ghost use Rattle.report_text.specs.declared.event.Event.{Event};
 ghost use Rattle.doc_text.specs.Doc.{Doc};
 ghost use Rattle.chip_model.specs.Chip.{chip_of};
@@ -16,18 +15,16 @@ ghost use Rattle.value_laws.specs.Reads.{AccessesHold};
 
 use crate::core_run_laws;
 
-/// The law of line values: before any event, after each event, and so in every state that a chip reaches, whatever its cores
-/// are. At run time it does nothing.
+/// The law of line values: before any event, after each event, and so in every state that a chip
+/// reaches, whatever its cores are. At run time it does nothing.
 pub fn kept_value_laws()
-    // Beside it each access comes in sequence after the writes that its tile performed before.
     ensures opened { (d : Doc) → ValuesHold d (opening d) }
-    ensures turn { (d : Doc) → AreInTurn (opening d) }
     ensures kept { (b : Behaviour) (laws : KeepsLaws b) (d : Doc) (s new : ChipState)
         (event : Event) → DocFits d → StateHolds b laws d s → AreInTurn s → ValuesHold d s
-        → step b (chip_of d) s event ≡ Some new → AreInTurn new × ValuesHold d new }
+        → step b (chip_of d) s event ≡ Some new → ValuesHold d new }
     ensures reached { (b : Behaviour) (laws : KeepsLaws b) (d : Doc) (events : List Event)
         (s : ChipState) → DocFits d → run b (chip_of d) (opening d) events ≡ Some s
-        → AreInTurn s × ValuesHold d s }
+        → ValuesHold d s }
 {
     chip_laws::chip_network_laws();
     chip_laws::core_order_laws();
@@ -43,12 +40,6 @@ pub fn reached_access_laws()
         → step in_order (chip_of d) s event ≡ Some new → AccessesHold d new }
     ensures reached { (d : Doc) (events : List Event) (s : ChipState) → DocFits d
         → run in_order (chip_of d) (opening d) events ≡ Some s → AccessesHold d s }
-
-    // No two accesses are of one instruction.
-    ensures numbers { (d : Doc) (events : List Event) (s : ChipState) → DocFits d
-        → run in_order (chip_of d) (opening d) events ≡ Some s
-        → (i j : ℕ) (a b : Access) → i ≢ j → slice_get s.accesses i ≡ Some a
-        → slice_get s.accesses j ≡ Some b → a.tile ≡ b.tile → a.number ≢ b.number }
 {
     core_run_laws();
     chip_laws::behaviour_laws();
