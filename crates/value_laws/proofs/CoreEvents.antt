@@ -86,8 +86,11 @@ ActedRuns accesses t acted = CoreRuns (with_access acted.1 accesses) t acted.0
 
 tried_runs : (accesses : List Access) (t : ℕ) (unit : UnitState) (kind : AccessKind) (sum value : ℕ) (effect : Effect) (acted : Acted) → unit.node.tile ≡ t
     → CoreRuns accesses t unit
-    → unit.halted ≡ false → next_effect unit ≡ effect → IsAccess unit.node.chip (record { kind = kind; address = address_in unit.node.chip sum;
-        value = value }) effect
+    → unit.halted ≡ false → next_effect unit ≡ effect → IsAccess unit.node.chip (record {
+      kind = kind;
+      address = address_in unit.node.chip sum;
+      value = value;
+    }) effect
     → access_tried unit kind sum value ≡ Some acted → ActedRuns accesses t acted
 tried_runs accesses t unit kind sum value effect acted tile is running next here e =
     let access : Pending = record { kind = kind; address = address_in unit.node.chip sum; value = value } in
@@ -133,14 +136,14 @@ one_runs s new t unit after o is changes accesses tile here =
 same_run : (s new : ChipState) → CoresRun s → new.units ≡ s.units → new.accesses ≡ s.accesses → CoresRun new
 same_run s new is units accesses =
     same_units (λ u other. CoreRuns new.accesses u other) s new units
-        (λ u other at. subst (λ (xs : List Access). CoreRuns xs u other) (sym accesses) (is u other at))
+    (λ u other at. subst (λ (xs : List Access). CoreRuns xs u other) (sym accesses) (is u other at))
 
 node_runs : (s new : ChipState) (t : ℕ) (unit : UnitState) (node : Node) → CoresRun s → ChangesUnit s new t unit (record unit { node = node })
     → new.accesses ≡ s.accesses
     → node.chip ≡ unit.node.chip → CoresRun new
 node_runs s new t unit node is changes accesses chip =
     one_runs s new t unit (record unit { node = node }) None is changes accesses (λ a e. none_some a e)
-        (chip_runs s.accesses t unit node chip (is t unit changes.at))
+    (chip_runs s.accesses t unit node chip (is t unit changes.at))
 
 -- ---- the events
 work_runs : (d : Doc) (s new : ChipState) (t : ℕ) → ProtocolHolds d s → CoresRun s → CoreWorks in_order s new t → CoresRun new
@@ -161,7 +164,7 @@ eject_runs d s new chip t holds order is does =
     let waits = (order t does.unit does.changes.at).waits in
     one_runs s new t does.unit (performed does.unit step).0 (performed does.unit step).1 is does.changes does.accesses (own_tile t does.unit step tile)
     (step_runs s.accesses t does.unit step.0 step.1 tile (is t does.unit does.changes.at)
-        (delivered_goes (IsNextAccess does.unit) does.request does.unit.node waits))
+    (delivered_goes (IsNextAccess does.unit) does.request does.unit.node waits))
 
 data_runs : (d : Doc) (s new : ChipState) (t : ℕ) (port : Port) (slot : ℕ) → ProtocolHolds d s → CoresInOrder s → CoresRun s
     → MessageComes in_order s new t port slot → CoresRun new

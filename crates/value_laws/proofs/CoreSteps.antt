@@ -109,7 +109,7 @@ made_next chip program core access a (Adds register sum value) does is =
     let read : a.old ≡ does.word = does.old ∙ ap (λ k. old_word k does.word) is.0 in
     let same : word_after kind.Add value a.old ≡ a.value =
     ap (word_after kind.Add value) read ∙ ap (λ (v : ℕ). word_after kind.Add v does.word) (sym is.2)
-        ∙ sym (does.value ∙ ap (λ k. word_after k access.value does.word) is.0) in
+    ∙ sym (does.value ∙ ap (λ k. word_after k access.value does.word) is.0) in
     let test = and_from _ _ (right_place chip access a sum does.address is.1) (eq-eqb (word_after kind.Add value a.old) a.value same) in
     rw (is_add, test) refl
 made_next chip program core access a (Becomes new) does is = absurd is

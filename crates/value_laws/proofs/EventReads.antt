@@ -111,7 +111,7 @@ module _ (d : Doc) (s new : ChipState) (e : OrdersNothing d s new) (reads : Read
       let inside : line_of is.access.address < d.lines =
       subst (λ (l : ℕ). l < d.lines) (sym (at_line d s new t unit after e.before is)) (subst (λ (n : ℕ). is.demand.line < n) lines within) in
       reads_performed d s new e t unit after c (completion_keeps d s new e t unit after c is
-          (all_succeeding s.accesses rising)) reads is.access is.place is.words
+      (all_succeeding s.accesses rising)) reads is.access is.place is.words
       (completion_acts d s new t unit after e.before is number by.same) (follows d s new t unit after e.before is) is.accesses fits.doc inside
 
   -- with one that hits
@@ -239,7 +239,7 @@ module _ (messages : MessageLaws) (b : Behaviour) (laws : KeepsLaws b) (d : Doc)
         (b.received does.msg does.unit).1 one some goes.answers in
         completes d s new e reads t does.unit (b.received does.msg does.unit).0 does.changes fits rising number
         (message_completes d s new e values (all_succeeding s.accesses rising) t does.unit
-            (b.received does.msg does.unit).0 does.changes does.msg awaited answers goes.node one some number
+        (b.received does.msg does.unit).0 does.changes does.msg awaited answers goes.node one some number
         (one_noted s new (b.received does.msg does.unit).1 (numbered does.unit one number) does.accesses answer))
 
   pub reads_after : (event : Event) → EventDoes b (chip_of d) s new event → ReadsHold d new

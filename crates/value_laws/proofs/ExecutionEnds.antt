@@ -41,10 +41,10 @@ pub core_left : (programs : List (List Instr)) (memory steps : List ℕ) (access
 unfolding executed_from
 core_left programs memory steps accesses after t n program core e is_n is_program alone =
     option_and_then_some (λ last. cores_at steps programs last.cores >>= λ cores. Some (flat_of cores last.memory))
-        (taken_all programs (start programs memory) accesses) after e (λ last taken e1.
+    (taken_all programs (start programs memory) accesses) after e (λ last taken e1.
     option_and_then_some (λ cores. Some (flat_of cores last.memory)) (cores_at steps programs last.cores) after e1 (λ cores reached e2.
     option_and_then_some (λ made. core_at n program made) (made_all (length memory) program (new_core t) (accesses_of t accesses)) core alone
-        (λ made is_made there.
+    (λ made is_made there.
     let whole = parts (length memory) programs (start programs memory) last accesses refl taken in
     let first = first_core programs memory t (slice_get_within programs t program is_program) in
     let its_core = sym (whole.cores t program (new_core t) is_program first) ∙ is_made in

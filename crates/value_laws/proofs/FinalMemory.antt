@@ -102,7 +102,7 @@ counts_all : (d : Doc) (s : ChipState) (line : ℕ) → InOrderChipHolds d s
     → AllByRecursion (Counts line (length s.network.ordered) (λ a. true)) (in_sequence s.accesses)
 counts_all d s line h =
     each_in_sequence (Counts line (length s.network.ordered) (λ a. true)) s.accesses
-        (each_from (Counts line (length s.network.ordered) (λ a. true)) s.accesses (λ place a at write here.
+    (each_from (Counts line (length s.network.ordered) (λ a. true)) s.accesses (λ place a at write here.
     sym (le-leb a.time (length s.network.ordered) (h.protocol.timely.writers place a at write).1)))
 
 -- a word of a line after all requests is what was written there last in sequence
@@ -111,10 +111,10 @@ last_word : (d : Doc) (s : ChipState) (line k : ℕ) → DocFits d → InOrderCh
 unfolding line_value witness
 last_word d s line k fits h less small =
     word_of_value line (length s.network.ordered) k (λ a. true) (in_sequence s.accesses) (words_at d.memory line) small (length_words d line fits less)
-        (counts_all d s line h)
+    (counts_all d s line h)
     ∙ ap (last_written (4 * line + k) (get_or (words_at d.memory line) k 0)) (filter_all (in_sequence s.accesses))
     ∙ ap (λ (word : ℕ). last_written (4 * line + k) word (in_sequence s.accesses)) (get_or-take 4 (drop (4 * line) d.memory) k 0 small
-        ∙ get_or-drop (4 * line) d.memory k 0)
+    ∙ get_or-drop (4 * line) d.memory k 0)
 
 four_words : (d : Doc) (s : ChipState) → DocFits d → InOrderChipHolds d s → finished s ≡ true → FourEach (final_words (chip_of d) s) 0 d.lines
 four_words d s fits h over k less =
@@ -142,7 +142,7 @@ pub memory_left : Counted → Received → (programs : List (List Instr)) (memor
     → executed programs memory accesses steps ≡ Some after → HoldsLast memory after.memory accesses
 memory_left counted received programs memory steps accesses after some e =
     option_map_some (λ (flat : Flat). flat.memory) (taken_all programs (start programs memory) accesses) after.memory
-        (memory_of_execution programs memory steps accesses after e) (λ last taken same.
+    (memory_of_execution programs memory steps accesses after e) (λ last taken same.
     subst (λ (words : List ℕ). HoldsLast memory words accesses) same (holds_last counted received programs (start programs memory) last accesses some taken))
 
 same_memory : (d : Doc) (s : ChipState) (new : List ℕ) → DocFits d → InOrderChipHolds d s → finished s ≡ true → HoldsLast d.memory new (witness s)
@@ -163,7 +163,7 @@ halted_left d s after fits h over e t program core is_program is_core =
     let tile = tile_of d s t h.chip.protocol (omega (arith, slice_get_within d.programs t program is_program, fits.programs)) in
     let alone = core_alone d s t program tile.unit fits h is_program tile.unit_at in
     let left = core_left d.programs d.memory (steps_done s) (witness s) after t tile.unit.core.steps program tile.unit.core e
-        (steps_at s t tile.unit tile.unit_at) is_program alone.1 in
+    (steps_at s t tile.unit tile.unit_at) is_program alone.1 in
     let halts = (h.cores t tile.unit tile.unit_at).halts (unit_done s t tile.unit over tile.unit_at).halted in
     let core_is : tile.unit.core ≡ core = same_Some tile.unit.core core (sym left ∙ is_core) in
     subst (λ (p : List Instr). next_of p core ≡ Halted) alone.0 (subst (λ (c : CoreState). next_of tile.unit.program c ≡ Halted) core_is (ap next_kind halts))

@@ -119,7 +119,7 @@ memory_words d s line fits h over small is_owner =
     ∙ ap (is_fresh_by s tile.unit.node line) owner_is
     ∙ come_at_end s line (last_written_back line (delivered_to s.network.ordered tile.unit.node)) none in
     let value = subst (λ (o : Owner). RecordHasValue d s tile.unit.node line r o) owner_is
-        ((h.values.nodes (home (chip_of d) line) tile.unit tile.unit_at).records line r here fresh) in
+    ((h.values.nodes (home (chip_of d) line) tile.unit tile.unit_at).records line r here fresh) in
     ap (λ (o : Option UnitState). unwrap_or (option_map (λ (x : UnitState). words_recorded (get_or x.node.records line None)) o) []) tile.unit_at
     ∙ ap words_recorded here
     ∙ value.value

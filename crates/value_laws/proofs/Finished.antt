@@ -121,4 +121,4 @@ none_pass {X = X} p none xs = sum_zero (λ (x : X). count_if (p x)) xs (each xs)
 pub none_to_come : (d : Doc) (s : ChipState) (line : ℕ) → DocFits d → ProtocolHolds d s → finished s ≡ true → write_backs_to_come s line ≡ 0
 none_to_come d s line fits h over =
     none_pass (is_undelivered s) (λ place. is_delivered d s place (slice_get s.network.ordered place) refl fits h over)
-        (places_written_back line s.network.ordered)
+    (places_written_back line s.network.ordered)

@@ -81,7 +81,7 @@ behind p a b stop (y ∷ xs) later all = (behind_by p a b y (p y) stop later.0 a
 
 last_by : (p : Access → Bool) (a b : Access) (xs : List Access) (t s : Bool) → is_before b a ≡ t → p b ≡ s → p a ≡ true → InOrder (b ∷ xs)
     → AllByRecursion (λ y. p y ≡ true → is_before y a ≡ true) (b ∷ xs) → filter p (inserted a xs) ≡ filter p xs ++ a ∷ []
-        → filter p (put a b xs t) ≡ filter p (b ∷ xs) ++ a ∷ []
+    → filter p (put a b xs t) ≡ filter p (b ∷ xs) ++ a ∷ []
 last_by p a b xs true true e f passes order all rest = rw f (ap (λ (ys : List Access). b ∷ ys) rest)
 last_by p a b xs true false e f passes order all rest = rw f rest
 last_by p a b xs false true e f passes order all rest = absurd (false≢true (sym e ∙ all.0 f))

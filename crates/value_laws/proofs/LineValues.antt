@@ -33,7 +33,7 @@ value_kept d xs a line place follows fails =
 pub value_written : (d : Doc) (xs : List Access) (a : Access) (line place : ℕ) → AreSucceeding xs → AllByRecursion (λ x. Succeeds x a) xs
     → writes_by line place a ≡ true
     → AllByRecursion (λ b. writes_by line place b ≡ true → is_before b a ≡ true) xs
-        → line_value d (xs ++ a ∷ []) line place ≡ with_write (line_value d xs line place) a
+    → line_value d (xs ++ a ∷ []) line place ≡ with_write (line_value d xs line place) a
 unfolding line_value
 value_written d xs a line place rising follows passes last =
     let order = in_order_sequence xs rising in
@@ -48,7 +48,7 @@ pub value_same : (d : Doc) (xs : List Access) (line p q : ℕ) → AllByRecursio
 unfolding line_value
 value_same d xs line p q all =
     ap (value_of d line) (same_passed (writes_by line p) (writes_by line q) (in_sequence xs)
-        (each_in_sequence (λ a. writes_by line p a ≡ writes_by line q a) xs all))
+    (each_in_sequence (λ a. writes_by line p a ≡ writes_by line q a) xs all))
 
 -- an access is no write to the line at this time
 abbrev pub NoWriteAt : ℕ → ℕ → Access → Type 0
@@ -101,7 +101,7 @@ word_by_test : (line place k : ℕ) (q : Access → Bool) (a : Access) (xs : Lis
     → k < 4
     → length words ≡ 4 → Counts line place q a
     → ((new : List ℕ) → length new ≡ 4 → get_or (fold with_write new (filter (writes_by line place) xs)) k 0
-        ≡ last_written (4 * line + k) (get_or new k 0) (filter q xs))
+    ≡ last_written (4 * line + k) (get_or new k 0) (filter q xs))
     → get_or (fold with_write words (cond s (a ∷ filter (writes_by line place) xs) (filter (writes_by line place) xs))) k 0
     ≡ last_written (4 * line + k) (get_or words k 0) (cond t (a ∷ filter q xs) (filter q xs))
 word_by_test line place k q a xs words true true es et small four counts rest =
@@ -113,7 +113,7 @@ word_by_test line place k q a xs words true false es et small four counts rest =
 word_by_test line place k q a xs words false true es et small four counts rest =
     rest words four
     ∙ ap (λ (word : ℕ). last_written (4 * line + k) word (filter q xs))
-        (sym (word_kept line k a (get_or words k 0) (is_write a) refl small (λ write here. grind (arith, nat_tests, counts))))
+    (sym (word_kept line k a (get_or words k 0) (is_write a) refl small (λ write here. grind (arith, nat_tests, counts))))
 word_by_test line place k q a xs words false false es et small four counts rest = rest words four
 
 -- a word of a line's value is what was last written there
@@ -123,4 +123,4 @@ pub word_of_value : (line place k : ℕ) (q : Access → Bool) (xs : List Access
 word_of_value line place k q [] words small four all = refl
 word_of_value line place k q (a ∷ xs) words small four all =
     word_by_test line place k q a xs words (writes_by line place a) (q a) refl refl small four all.0
-        (λ new is_four. word_of_value line place k q xs new small is_four all.1)
+    (λ new is_four. word_of_value line place k q xs new small is_four all.1)

@@ -28,7 +28,7 @@ wrote d s line time i a h at write same then_ =
 
 pub next_settled : (d : Doc) (s : ChipState) (u line place : ℕ) (other : UnitState) → ProtocolHolds d s → slice_get s.units u ≡ Some other
     → (writer line (take (place + 1) s.network.ordered) ≡ Tile u → ⊥) → IsSettled s.network.ordered other.node line place
-        → IsSettled s.network.ordered other.node line (place + 1)
+    → IsSettled s.network.ordered other.node line (place + 1)
 next_settled d s u line place other h is never settled =
     let holds = (unit_holds d s u other h is).holds in
     settled_next s.network.ordered other.node line place holds.serves.writers holds.node.agrees.demand (λ e. never (e ∙ ap Tile holds.node.agrees.tile)) settled
@@ -45,7 +45,7 @@ value_passes d s line place words h none has = record {
 -- where only the tile itself may write, which has performed nothing at that time
 pub own_value_passes : (d : Doc) (s : ChipState) (t line place : ℕ) (unit : UnitState) (words : List ℕ) → ProtocolHolds d s → slice_get s.units t ≡ Some unit
     → writer line (take (place + 1) s.network.ordered) ≡ Tile t → latest_time unit.node ≤ place → HasOwnValue d s t line place words
-        → HasOwnValue d s t line (place + 1) words
+    → HasOwnValue d s t line (place + 1) words
 own_value_passes d s t line place unit words h here own before has = record {
   value = has.value ∙ sym (value_next d s.accesses line place (each_from (NoWriteAt line (place + 1)) s.accesses (λ i a at write same then_.
       let e = wrote d s line (place + 1) i a h at write same then_ in

@@ -18,6 +18,6 @@ returns c =
       reached = λ d events s fits e.
           accesses_hold laws d s
           (state_reached kept turns.stepped messages laws d events (opening d) s (requests d fits)
-              (state_opened c.reachable_laws.ensures.opened turns.opened laws d fits) e)
+          (state_opened c.reachable_laws.ensures.opened turns.opened laws d fits) e)
           (runs.reached d events s fits e);
     }
