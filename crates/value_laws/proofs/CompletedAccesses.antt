@@ -84,9 +84,9 @@ pub request_completes : (d : Doc) (s new : ChipState) → OrdersNothing d s new 
     → ChangesUnit s new t unit after → (q : Request) → slice_get s.network.ordered unit.node.delivered ≡ Some q → OwnRequestFits unit.node.tile unit.node.side q
     → after.node ≡ (node_after_request q unit.node).0 → (one : Done) → (node_after_request q unit.node).1 ≡ Some one
     → (number : ℕ) → new.accesses ≡ s.accesses ++ numbered unit one number ∷ [] → CompletesBy d s new t unit after number
-request_completes d s new e values fits rising t unit after c q next own node one done number accesses =
+request_completes d s new e values fits turn t unit after c q next own node one done number accesses =
     let get = request_performs q unit.node one own done in
-    own_completes d s new e values fits t unit after c rising q next get.source get.asks get.demand get.stands get.is_for get.words get.here node number
+    own_completes d s new e values fits t unit after c turn q next get.source get.asks get.demand get.stands get.is_for get.words get.here node number
     (subst (λ (x : Done). new.accesses ≡ s.accesses ++ numbered unit x number ∷ []) get.done accesses)
 
 -- ---- a message
@@ -134,8 +134,8 @@ pub message_completes : (d : Doc) (s new : ChipState) → OrdersNothing d s new 
     → ChangesUnit s new t unit after → (msg : Msg) → DataFits unit.node.side msg → (msg.kind ≡ Data → AnswersGet d s unit.node msg.line msg.words)
     → after.node ≡ (node_after_message msg unit.node).0 → (one : Done) → (node_after_message msg unit.node).1 ≡ Some one
     → (number : ℕ) → new.accesses ≡ s.accesses ++ numbered unit one number ∷ [] → CompletesBy d s new t unit after number
-message_completes d s new e values rising t unit after c msg fits answers node one done number accesses =
+message_completes d s new e values turn t unit after c msg fits answers node one done number accesses =
     let came = message_performs msg unit.node one fits done in
-    data_completes d s new e values t unit after c rising msg.line msg.words came.demand came.stands came.place came.ordered (answers came.kind)
+    data_completes d s new e values t unit after c turn msg.line msg.words came.demand came.stands came.place came.ordered (answers came.kind)
     (node ∙ words_node msg unit.node came.kind) number
     (subst (λ (x : Done). new.accesses ≡ s.accesses ++ numbered unit x number ∷ []) came.done accesses)

@@ -86,11 +86,8 @@ ActedRuns accesses t acted = CoreRuns (with_access acted.1 accesses) t acted.0
 
 tried_runs : (accesses : List Access) (t : ℕ) (unit : UnitState) (kind : AccessKind) (sum value : ℕ) (effect : Effect) (acted : Acted) → unit.node.tile ≡ t
     → CoreRuns accesses t unit
-    → unit.halted ≡ false → next_effect unit ≡ effect → IsAccess unit.node.chip (record {
-      kind = kind;
-      address = address_in unit.node.chip sum;
-      value = value;
-    }) effect
+    → unit.halted ≡ false → next_effect unit ≡ effect
+    → IsAccess unit.node.chip (record { kind = kind; address = address_in unit.node.chip sum; value = value }) effect
     → access_tried unit kind sum value ≡ Some acted → ActedRuns accesses t acted
 tried_runs accesses t unit kind sum value effect acted tile is running next here e =
     let access : Pending = record { kind = kind; address = address_in unit.node.chip sum; value = value } in

@@ -61,12 +61,12 @@ alone_reads unit acted a alone some = by acted.1 some alone.reads where
   by None is reads_it = none_some a is
   by (Some b) is reads_it = subst (λ (x : Access). writes x.kind ≡ false) (same_Some b a is) reads_it.0
 
-module _ (d : Doc) (s new : ChipState) (e : OrdersNothing d s new) (values : ValuesHold d s) (rising : AreSucceeding new.accesses) (t : ℕ) (unit : UnitState)
+module _ (d : Doc) (s new : ChipState) (e : OrdersNothing d s new) (values : ValuesHold d s) (turn : AreSucceeding new.accesses) (t : ℕ) (unit : UnitState)
     (acted : Acted)
     (c : ChangesUnit s new t unit acted.0) (a : Access) (accesses : new.accesses ≡ s.accesses ++ a ∷ []) (some : acted.1 ≡ Some a)
     (replies : new.replies ≡ s.replies) where
-  rises : AreSucceeding (s.accesses ++ a ∷ [])
-  rises = subst AreSucceeding accesses rising
+  turns : AreSucceeding (s.accesses ++ a ∷ [])
+  turns = subst AreSucceeding accesses turn
 
   stood : (router port slot : ℕ) (msg : Msg) → stands_at new.replies router port slot ≡ Some msg → MessageHasValue d s msg msg.kind
   stood router port slot msg there = values.channels router port slot msg (ap (λ (net : Network Msg). stands_at net router port slot) (sym replies) ∙ there)
@@ -74,17 +74,17 @@ module _ (d : Doc) (s new : ChipState) (e : OrdersNothing d s new) (values : Val
   works_values : Works unit acted → ValuesHold d new
   works_values (inl alone) =
       node_kept_values d s new e values t unit acted.0 c alone.node
-      (read_leaves d s new a (pairs_last Succeeds s.accesses a rises) accesses (alone_reads unit acted a alone some)) stood
+      (read_leaves d s new a (pairs_last Succeeds s.accesses a turns) accesses (alone_reads unit acted a alone some)) stood
   works_values (inr tries) =
       let (hit, number, is) = hits unit acted a tries some in
-      hit_values d s new e values (pairs_before Succeeds s.accesses a rises) t unit acted.0 c tries.access tries.left hit number tries.goes_on.node
-      (subst (λ (x : Access). AllByRecursion (λ b. Succeeds b x) s.accesses) is (pairs_last Succeeds s.accesses a rises))
+      hit_values d s new e values (pairs_before Succeeds s.accesses a turns) t unit acted.0 c tries.access tries.left hit number tries.goes_on.node
+      (subst (λ (x : Access). AllByRecursion (λ b. Succeeds b x) s.accesses) is (pairs_last Succeeds s.accesses a turns))
       (subst (λ (x : Access). new.accesses ≡ s.accesses ++ x ∷ []) is accesses) replies
 
 -- a core event that performs an access keeps all values
 pub accesses_keep_values : (b : Behaviour) (laws : KeepsLaws b) (d : Doc) (s new : ChipState) → UnitsFit b laws s → AreSucceeding new.accesses → ValuesHold d s
     → AccessesKeepValues b d s new
-accesses_keep_values b laws d s new fit rising values t does a some e =
-    works_values d s new e values rising t does.unit (b.stepped does.unit) does.changes a
+accesses_keep_values b laws d s new fit turn values t does a some e =
+    works_values d s new e values turn t does.unit (b.stepped does.unit) does.changes a
     (one_noted s new (b.stepped does.unit).1 a does.accesses some) some does.replies
     (laws.stepped does.unit (fit t does.unit does.changes.at) does.ready).1

@@ -45,7 +45,7 @@ lookup_written chip cache held words line m there =
     lookup-installed chip cache (record held { words = words }) m (fits_held chip cache held.line (ap is_some at))
     ∙ ap (λ (l : ℕ). if m == l then Some (record held { words = words }) else lookup chip cache m) same
 
-module _ (d : Doc) (s new : ChipState) (e : OrdersNothing d s new) (values : ValuesHold d s) (rising : AreSucceeding s.accesses) (t : ℕ)
+module _ (d : Doc) (s new : ChipState) (e : OrdersNothing d s new) (values : ValuesHold d s) (turn : AreSucceeding s.accesses) (t : ℕ)
     (unit after : UnitState)
     (c : ChangesUnit s new t unit after) (access : Pending) (step : Performed) (hit : Hit access unit.node step) (number : ℕ) (node : after.node ≡ step.0)
     (follows : AllByRecursion (λ b. Succeeds b (numbered unit (done_by access unit.node.delivered hit.held.words) number)) s.accesses)
@@ -139,7 +139,7 @@ module _ (d : Doc) (s new : ChipState) (e : OrdersNothing d s new) (values : Val
   written_value : writes access.kind ≡ true → written_by access hit.held.words ≡ line_value d new.accesses line unit.node.delivered
   written_value write = sym (
       ap (λ (xs : List Access). line_value d xs line unit.node.delivered) accesses
-      ∙ value_written d s.accesses a line unit.node.delivered rising follows counted (each_from _ s.accesses (λ i b at counts.
+      ∙ value_written d s.accesses a line unit.node.delivered turn follows counted (each_from _ s.accesses (λ i b at counts.
       let both = and_parts (is_write b && (line_of b.address == line)) (nat_le b.time unit.node.delivered) counts in
       let first = and_parts (is_write b) (line_of b.address == line) both.0 in
       each_at _ s.accesses i b acts.counts at first.0 (eqb-true (line_of b.address) line first.1) ∙ both.1))

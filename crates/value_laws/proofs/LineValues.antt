@@ -35,8 +35,8 @@ pub value_written : (d : Doc) (xs : List Access) (a : Access) (line place : ℕ)
     → AllByRecursion (λ b. writes_by line place b ≡ true → is_before b a ≡ true) xs
     → line_value d (xs ++ a ∷ []) line place ≡ with_write (line_value d xs line place) a
 unfolding line_value
-value_written d xs a line place rising follows passes last =
-    let order = in_order_sequence xs rising in
+value_written d xs a line place turn follows passes last =
+    let order = in_order_sequence xs turn in
     let behind = each_in_sequence (λ b. writes_by line place b ≡ true → is_before b a ≡ true) xs last in
     ap (λ (ys : List Access). value_of d line (filter (writes_by line place) ys)) (sequence_push xs a follows)
     ∙ (ap (value_of d line) (passed_last (writes_by line place) a (in_sequence xs) passes order behind)

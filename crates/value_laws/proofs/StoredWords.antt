@@ -118,7 +118,7 @@ module _ (d : Doc) (s new : ChipState) (e : OrdersNothing d s new) (t : ℕ) (un
       (only_gets is.demand.line is.place ordered is.get is.at (is.kind ∙ kind) is.line) k above below)) is.has)
 
   -- ---- a store
-  module _ (kind : is.demand.kind ≡ GetM) (rising : AreSucceeding s.accesses) (m : ℕ) (beyond : is.place < m) (inside : m ≤ after.node.delivered)
+  module _ (kind : is.demand.kind ≡ GetM) (turn : AreSucceeding s.accesses) (m : ℕ) (beyond : is.place < m) (inside : m ≤ after.node.delivered)
       (asks : AsksOnly (λ u. u ≡ t) is.demand.line is.place m ordered) where
     only : (k : ℕ) → is.place < k → k < m + 1 → Only (λ u. u ≡ t) (writer is.demand.line (take k ordered))
     only = only_until (λ u. u ≡ t) is.demand.line is.place m ordered (omega (arith, inside, within)) asks
@@ -156,7 +156,7 @@ module _ (d : Doc) (s new : ChipState) (e : OrdersNothing d s new) (t : ℕ) (un
     value : line_value d new.accesses is.demand.line m ≡ written_by is.demand.pending is.words
     value =
         ap (λ (xs : List Access). line_value d xs is.demand.line m) is.accesses
-        ∙ value_written d s.accesses is.access is.demand.line m rising
+        ∙ value_written d s.accesses is.access is.demand.line m turn
         (all_succeed is.access s.accesses (follows d s new t unit after e.before is)) counts last
         ∙ ap (λ (ws : List ℕ). with_write ws is.access) (value_same d s.accesses is.demand.line m is.place same ∙ sym is.has.value)
         ∙ with_access d s new t unit after e.before is
