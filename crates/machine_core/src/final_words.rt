@@ -1,4 +1,4 @@
-ghost use Rattle.std.specs.Prelude.{◌≡◌, ◌*◌, ◌<◌, ◌≤◌, [], Some, length, slice_get, if◌then◌else◌, true, flat_map, vec_capacity};
+ghost use Rattle.std.specs.Prelude.{◌≡◌, ◌+◌, ◌*◌, ◌<◌, ◌≤◌, [], ◌∷◌, ◌++◌, Some, unwrap_or, length, slice_get, if◌then◌else◌, true, flat_map, vec_capacity};
 ghost use Rattle.order_tracker.specs.Order.{upwards};
 ghost use Rattle.chip_model.specs.Chip.{chip_of_mesh};
 ghost use Rattle.chip_model.specs.ChipState.{ChipState};
@@ -28,44 +28,46 @@ pub(crate) fn final_memory<U: Unit>(
     memory.clear();
     if is_finished {
         for line in 0..mesh.lines {
-            for word in line_words(stations, mesh, line) {
-                memory.push_reserved(word);
-            }
+            push_words(&mut memory, line_words(stations, mesh, line));
         }
     }
     memory
 }
 
+// Four words more, for which there is room.
+fn push_words(memory: &mut Vec<u32>, words: Option<Words>)
+    requires { length memory.old.items + 4 ≤ vec_capacity memory.old }
+    ensures words { memory.new.items ≡ memory.old.items ++ unwrap_or words (0 ∷ 0 ∷ 0 ∷ 0 ∷ []) }
+    ensures room { vec_capacity memory.new ≡ vec_capacity memory.old }
+{
+    let four = words.unwrap_or([0; 4]);
+    for word in four {
+        memory.push_reserved(word);
+    }
+}
+
 // The words of a line where its owner keeps them.
-fn line_words<U: Unit>(stations: &[Station<U>], mesh: &Mesh, line: u16) -> Words
+fn line_words<U: Unit>(stations: &[Station<U>], mesh: &Mesh, line: u16) -> Option<Words>
     requires { line < mesh.now.lines }
     ensures { (s : ChipState) → s.units ≡ units_of stations.now
         → OwnerKeeps (chip_of_mesh mesh.now) s line
-        → result ≡ final_words (chip_of_mesh mesh.now) s line }
+        → result ≡ Some (final_words (chip_of_mesh mesh.now) s line) }
 {
-    let Some(home) = stations.get(usize::from(mesh.home(line))) else {
-        return [0; 4];
-    };
-    let Some((owner, words, _)) = home.unit.node().home_record(line) else {
-        return [0; 4];
-    };
+    let home = stations.get(usize::from(mesh.home(line)))?;
+    let (owner, words, _) = home.unit.node().home_record(line)?;
     match owner {
-        Owner::Memory => words,
+        Owner::Memory => Some(words),
         Owner::Tile(t) => cached_words(stations, t, line),
     }
 }
 
-// The words of a line in the cache of a tile that holds it.
-fn cached_words<U: Unit>(stations: &[Station<U>], t: u8, line: u16) -> Words
+// The words of a line in the cache of a tile.
+fn cached_words<U: Unit>(stations: &[Station<U>], t: u8, line: u16) -> Option<Words>
     ensures { (unit : UnitState) (held : Held) → slice_get (units_of stations.now) t ≡ Some unit
         → lookup unit.node.chip unit.node.side.cache line ≡ Some held
-        → result ≡ held.words }
+        → result ≡ Some held.words }
 {
-    let Some(station) = stations.get(usize::from(t)) else {
-        return [0; 4];
-    };
-    let Some((_, words)) = station.unit.node().line(line) else {
-        return [0; 4];
-    };
-    words
+    let station = stations.get(usize::from(t))?;
+    let (_, words) = station.unit.node().line(line)?;
+    Some(words)
 }
