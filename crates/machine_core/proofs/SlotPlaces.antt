@@ -1,5 +1,5 @@
 -- Where the event of a slot stands in the list of all slots, and how long that list is.
-use Rattle.std.proofs.Common.{◌≡◌, ℕ, zero, suc, ◌+◌, ◌*◌, ◌<◌, ◌≤◌, List, [], ◌∷◌, ◌++◌, Option, Some, None, length, refl, sym, ◌∙◌, ap, subst, arith, zero-mul, suc-mul}
+use Rattle.std.proofs.Common.{◌≡◌, ℕ, zero, suc, ◌+◌, ◌*◌, ◌<◌, ◌≤◌, List, [], ◌∷◌, ◌++◌, Option, Some, None, length, refl, sym, ◌∙◌, ap, subst, arith, zero-mul, suc-mul, ◌/◌, div-lt_iff_lt-mul}
 use Rattle.std.specs.Prelude.{slice_get, map}
 use Rattle.std.specs.List.{flat_map}
 use Rattle.std.proofs.lemmas.List.{length-append, length-map}
@@ -185,3 +185,7 @@ unfolding slots
 tile_slot_at chip t j k event inside below is at =
     subst (λ (n : ℕ). slice_get (slots chip) n ≡ Some event) (sym is)
     (flat_at (tile_slots chip) (slots_per_tile chip) (length_tile chip) (upwards 0 (tile_count chip)) t j (t * slots_per_tile chip + j) t (number_at (tile_count chip) t inside) below refl ∙ at)
+
+-- a number below n times a size is in one of the first n pieces of that size
+pub quotient_below : (k n each : ℕ) → 0 < each → k < n * each → k / each < n
+quotient_below k n each some below = (div-lt_iff_lt-mul some).1 below

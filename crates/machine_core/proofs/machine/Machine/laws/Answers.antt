@@ -1,4 +1,4 @@
 use Rattle.machine_core.proofs.machine.Machine.laws.Goals as goal
 
 pub returns : goal.returns
-returns c = ?
+returns g c = ?

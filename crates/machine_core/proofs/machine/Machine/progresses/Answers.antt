@@ -1,13 +1,13 @@
 use Rattle.machine_core.proofs.machine.Machine.progresses.Goals as goal
 
 pub returns-clause-moves : goal.returns-clause-moves
-returns-clause-moves c = ?
+returns-clause-moves g c = ?
 
 pub returns-clause-stops : goal.returns-clause-stops
-returns-clause-stops c = ?
+returns-clause-stops g c = ?
 
 pub returns-clause-slots : goal.returns-clause-slots
-returns-clause-slots c = ?
+returns-clause-slots g c = ?
 
 pub returns-clause-count : goal.returns-clause-count
-returns-clause-count c = ?
+returns-clause-count g c = ?

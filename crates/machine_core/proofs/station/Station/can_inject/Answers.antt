@@ -1,7 +1,7 @@
 use Rattle.machine_core.proofs.station.Station.can_inject.Goals as goal
 
 pub returns-in-Some : goal.returns-in-Some
-returns-in-Some c = ?
+returns-in-Some g c = ?
 
 pub returns-in-None : goal.returns-in-None
-returns-in-None c = ?
+returns-in-None g c = ?
