@@ -1,6 +1,6 @@
 -- In every state that a run comes to, no core has done more instructions, no tile has delivered more requests, and no more
 -- accesses were performed, than there are events.
-use Rattle.std.proofs.Common.{◌≡◌, ℕ, zero, suc, ◌+◌, ◌≤◌, List, [], ◌∷◌, ◌++◌, Option, Some, None, length, refl, sym, ◌∙◌, ap, subst, arith}
+use Rattle.std.proofs.Common.{◌≡◌, ℕ, zero, suc, ◌+◌, ◌≤◌, List, [], ◌∷◌, ◌++◌, Option, Some, None, length, refl, sym, ◌∙◌, ap, subst, arith, inl, inr, zero-add}
 use Rattle.std.specs.Prelude.{slice_get, true, map}
 use Rattle.std.proofs.lemmas.List.{length-append}
 use Rattle.std.proofs.lemmas.Option.{same_Some}
@@ -152,4 +152,5 @@ opened_counted d = record {
 -- every state that a run comes to
 pub reached_counted : IsKept → (b : Behaviour) (laws : KeepsLaws b) → CountsOne b → (d : Doc) (s : ChipState) → DocFits d → StateHolds b laws d (opening d)
     → run b (chip_of d) (opening d) s.journal ≡ Some s → IsCounted (length s.journal) s
-reached_counted kept b laws one d s fits holds e = run_counted kept b laws one d s.journal 0 (opening d) s fits holds (opened_counted d) e
+reached_counted kept b laws one d s fits holds e =
+    subst (λ (n : ℕ). IsCounted n s) (zero-add (length s.journal)) (run_counted kept b laws one d s.journal 0 (opening d) s fits holds (opened_counted d) e)

@@ -1,5 +1,6 @@
 -- The journal of a run: a step leaves it, an event is noted at its end, and so it leads to the state after the event.
-use Rattle.std.proofs.Common.{◌≡◌, ℕ, List, [], ◌∷◌, ◌++◌, Option, Some, None, refl, sym, ◌∙◌, ap, subst}
+use Rattle.std.specs.Prelude.{slice_get}
+use Rattle.std.proofs.Common.{◌≡◌, ℕ, ◌+◌, List, [], ◌∷◌, ◌++◌, Option, Some, None, refl, sym, ◌∙◌, ap, subst}
 use Rattle.std.proofs.lemmas.Option.{same_Some}
 use Rattle.mesh_gen.specs.Partial.{when, ◌>>=◌}
 use Rattle.report_text.specs.declared.event.Event.{Event}
@@ -7,7 +8,11 @@ use Rattle.report_text.specs.declared.event.Event.TheVariants.{Tick, Core, Injec
 use Rattle.chip_model.specs.Chip.{Chip}
 use Rattle.chip_model.specs.Units.{Behaviour}
 use Rattle.chip_model.specs.ChipState.{ChipState}
-use Rattle.chip_model.specs.Events.{step}
+use Rattle.chip_model.specs.Events.{step, unit_at, with_acted, with_network, with_node}
+use Rattle.chip_model.specs.Misses.{wanted}
+use Rattle.chip_model.specs.Node.{after_request_sent, after_message_sent}
+use Rattle.chip_model.specs.OrderedNetwork.{after_inject, after_request_post, after_network_tick, after_vector_take, after_copy_hop, after_delivery}
+use Rattle.chip_model.specs.Replies.{after_send, after_data_hop, after_data_eject}
 use Rattle.chip_model.specs.Runs.{noted, after, run}
 use Rattle.chip_laws.proofs.Options.{bind, when_some}
 use Rattle.supply_laws.proofs.ReachedStates.{noted_after}
@@ -26,17 +31,36 @@ made j x is y e = ap (λ (s : ChipState). s.journal) (sym (same_Some x y e)) ∙
 
 -- a step leaves the journal as it is
 pub step_journal : (b : Behaviour) (chip : Chip) (s : ChipState) (event : Event) → HasJournal s.journal (step b chip s event)
-unfolding step
-step_journal b chip s Tick = through s.journal _ _ (λ network. made s.journal _ refl)
-step_journal b chip s (Core t) = through s.journal _ _ (λ unit. guarded s.journal _ _ (made s.journal _ refl))
-step_journal b chip s (Inject t) = through s.journal _ _ (λ unit. through s.journal _ _ (λ asked. through s.journal _ _ (λ network. made s.journal _ refl)))
-step_journal b chip s (Post t) = through s.journal _ _ (λ network. made s.journal _ refl)
-step_journal b chip s (Take t) = through s.journal _ _ (λ network. made s.journal _ refl)
-step_journal b chip s (Eject t) = through s.journal _ _ (λ unit. through s.journal _ _ (λ out. made s.journal _ refl))
-step_journal b chip s (Send t) = through s.journal _ _ (λ unit. through s.journal _ _ (λ msg. through s.journal _ _ (λ replies. made s.journal _ refl)))
-step_journal b chip s (Hop r port slot out) = through s.journal _ _ (λ network. made s.journal _ refl)
-step_journal b chip s (DataHop r port slot) = through s.journal _ _ (λ replies. made s.journal _ refl)
-step_journal b chip s (DataEject r port slot) = through s.journal _ _ (λ out. through s.journal _ _ (λ unit. made s.journal _ refl))
+unfolding step unit_at
+step_journal b chip s Tick = through s.journal (after_network_tick chip s.network) (λ network. Some (with_network network s)) (λ network. made s.journal (with_network network s) refl)
+step_journal b chip s (Core t) =
+    through s.journal (slice_get s.units t) (λ unit. when (b.ready unit) (Some (with_acted t (b.stepped unit) s))) (λ unit.
+    guarded s.journal (b.ready unit) (Some (with_acted t (b.stepped unit) s)) (made s.journal (with_acted t (b.stepped unit) s) refl))
+step_journal b chip s (Inject t) =
+    through s.journal (slice_get s.units t) (λ unit. wanted unit.node.side.misses >>= (λ asked. after_inject chip s.network t asked.0 asked.1 >>= (λ network. Some (with_node t unit (after_request_sent unit.node) (with_network network s))))) (λ unit.
+    through s.journal (wanted unit.node.side.misses) (λ asked. after_inject chip s.network t asked.0 asked.1 >>= (λ network. Some (with_node t unit (after_request_sent unit.node) (with_network network s)))) (λ asked.
+    through s.journal (after_inject chip s.network t asked.0 asked.1) (λ network. Some (with_node t unit (after_request_sent unit.node) (with_network network s))) (λ network.
+    made s.journal (with_node t unit (after_request_sent unit.node) (with_network network s)) refl)))
+step_journal b chip s (Post t) = through s.journal (after_request_post s.network t) (λ network. Some (with_network network s)) (λ network. made s.journal (with_network network s) refl)
+step_journal b chip s (Take t) = through s.journal (after_vector_take s.network t) (λ network. Some (with_network network s)) (λ network. made s.journal (with_network network s) refl)
+step_journal b chip s (Eject t) =
+    through s.journal (slice_get s.units t) (λ unit. after_delivery chip s.network t >>= (λ out. Some (with_acted t (b.delivered out.0 unit) (with_network out.1 s)))) (λ unit.
+    through s.journal (after_delivery chip s.network t) (λ out. Some (with_acted t (b.delivered out.0 unit) (with_network out.1 s))) (λ out.
+    made s.journal (with_acted t (b.delivered out.0 unit) (with_network out.1 s)) refl))
+step_journal b chip s (Send t) =
+    through s.journal (slice_get s.units t) (λ unit. slice_get unit.node.out 0 >>= (λ msg. after_send s.replies t msg >>= (λ replies. Some (with_node t unit (after_message_sent unit.node) (record s { replies = replies }))))) (λ unit.
+    through s.journal (slice_get unit.node.out 0) (λ msg. after_send s.replies t msg >>= (λ replies. Some (with_node t unit (after_message_sent unit.node) (record s { replies = replies })))) (λ msg.
+    through s.journal (after_send s.replies t msg) (λ replies. Some (with_node t unit (after_message_sent unit.node) (record s { replies = replies }))) (λ replies.
+    made s.journal (with_node t unit (after_message_sent unit.node) (record s { replies = replies })) refl)))
+step_journal b chip s (Hop r port slot out) =
+    through s.journal (after_copy_hop chip s.network r port slot out) (λ network. Some (record s { network = network; hops = s.hops + 1 })) (λ network.
+    made s.journal (record s { network = network; hops = s.hops + 1 }) refl)
+step_journal b chip s (DataHop r port slot) =
+    through s.journal (after_data_hop chip.grid s.replies r port slot) (λ replies. Some (record s { replies = replies })) (λ replies. made s.journal (record s { replies = replies }) refl)
+step_journal b chip s (DataEject r port slot) =
+    through s.journal (after_data_eject s.replies r port slot) (λ out. slice_get s.units r >>= (λ unit. Some (with_acted r (b.received out.0 unit) (record s { replies = out.1 })))) (λ out.
+    through s.journal (slice_get s.units r) (λ unit. Some (with_acted r (b.received out.0 unit) (record s { replies = out.1 }))) (λ unit.
+    made s.journal (with_acted r (b.received out.0 unit) (record s { replies = out.1 })) refl))
 
 -- an event is noted at the end
 pub after_journal : (b : Behaviour) (chip : Chip) (s new : ChipState) (event : Event) → after b chip s event ≡ Some new → new.journal ≡ s.journal ++ event ∷ []

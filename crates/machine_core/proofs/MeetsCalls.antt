@@ -7,6 +7,7 @@ use Rattle.mesh_gen.specs.declared.port.Port.{Port}
 use Rattle.mesh_gen.specs.declared.request.Request.{Request}
 use Rattle.mesh_gen.specs.Limits.{most_tiles}
 use Rattle.vc_bank.specs.Places.{Network}
+use Rattle.report_text.specs.declared.access.Access.{Access}
 use Rattle.report_text.specs.declared.event.Event.{Event}
 use Rattle.report_text.specs.declared.event.Event.TheVariants.{Core}
 use Rattle.report_text.specs.Journals.{events_of}
@@ -28,11 +29,12 @@ use Rattle.supply_laws.specs.OpenGets.{DataAnswersGets}
 use Rattle.supply_laws.specs.Reachable.{StateHolds}
 use Rattle.supply_laws.specs.UnitCalls.{DeliveryFits, ArrivalFits}
 use Rattle.supply_laws.proofs.ReachedStates.{IsKept}
-use Rattle.fabric_core.specs.Fabric.{FabricState, event_count}
+use Rattle.fabric_core.specs.Fabric.{FabricState, event_count, MayNote, fabric_after_eject, fabric_after_data_eject}
 use Rattle.fabric_core.specs.Parts.{NetworksFit}
 use Rattle.machine_core.specs.Stations.{StationState, seen_by}
 use Rattle.machine_core.specs.Meetings.{AreOfRun, MeetsCalls}
-use Rattle.machine_core.proofs.SeenSteps.{set_there}
+use Rattle.machine_core.proofs.SeenSteps.{set_there, made_by}
+use Rattle.machine_core.proofs.StationEvents.{SameRoom, delivery_came, arrival_came}
 use Rattle.machine_core.proofs.Counted.{IsCounted, reached_counted}
 
 -- what deliveries and arrivals meet, as the laws below say it
@@ -80,6 +82,7 @@ meets_calls places queue b laws one kept opens reaches delivers arrives st fab o
     record {
       networks = networks_of d s fab of.chip refl refl some of.within.tiles of.within.vcs of.within.data_vcs holds.protocol;
       tile = subst (λ (c : Chip). st.tile < tile_count c) (sym of.chip) inside;
+      cores = cores;
       chip = node.node.chip ∙ sym of.chip;
       steps = omega (arith, mine.steps, long, room, cores, of.few);
       delivered = omega (arith, mine.delivered, long, room, cores, of.few);
@@ -89,3 +92,20 @@ meets_calls places queue b laws one kept opens reaches delivers arrives st fab o
       receive = λ port slot msg replies is. arrives d s st.tile port slot st.unit msg replies fits of.within.tiles holds.protocol holds.messages at is;
       send = λ msg first. subst (λ (c : Chip). msg.to < tile_count c) (sym of.chip) (node.node.messages 0 msg first).to;
     }
+
+-- the next event may be noted, and there is room for its access
+pub may_note : (places queue : ℕ) (st : StationState) (fab : FabricState) → MeetsCalls places queue st fab → event_count fab + st.cores + 1 ≤ fab.room → MayNote (made_by st) fab
+may_note places queue st fab meets room = record { by = meets.tile; cores = meets.cores; room = room }
+
+pub room_left : (places queue : ℕ) (st : StationState) (fab moved : FabricState) → MeetsCalls places queue st fab → event_count fab + st.cores + 1 ≤ fab.room → SameRoom fab moved
+    → length moved.accesses + length st.accesses + 1 ≤ moved.room
+room_left places queue st fab moved meets room same = omega (arith, meets.accesses, room, same.room, ap (λ (a : List Access). length a) same.accesses)
+
+-- a request that the fabric delivers, and a message that it brings, meet what the unit's calls ask
+pub delivery_meets : (places queue : ℕ) (st : StationState) (fab moved : FabricState) (q : Request) → MeetsCalls places queue st fab → fabric_after_eject (made_by st) st.tile fab ≡ Some (q, moved)
+    → DeliveryFits places queue st.unit.node q
+delivery_meets places queue st fab moved q meets is = let from = delivery_came st fab moved q is in meets.deliver q from.0 from.1
+
+pub arrival_meets : (places queue : ℕ) (st : StationState) (fab moved : FabricState) (port : Port) (slot : ℕ) (msg : Msg) → MeetsCalls places queue st fab
+    → fabric_after_data_eject (made_by st) st.tile port slot fab ≡ Some (msg, moved) → ArrivalFits queue st.unit.node msg
+arrival_meets places queue st fab moved port slot msg meets is = let from = arrival_came st fab moved port slot msg is in meets.receive port slot msg from.0 from.1

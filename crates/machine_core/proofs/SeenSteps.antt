@@ -84,7 +84,7 @@ abbrev pub accesses_with : StationState → FabricState → Option Access → Li
 accesses_with st fab access = with_access access (fab.accesses ++ st.accesses)
 
 -- a step of the chip that the station sees, which leaves these parts
-abbrev Steps : Behaviour → StationState → FabricState → Event → OrderedNetwork → Network Msg → ℕ → UnitState → Option Access → Type 0
+abbrev pub Steps : Behaviour → StationState → FabricState → Event → OrderedNetwork → Network Msg → ℕ → UnitState → Option Access → Type 0
 Steps b st fab event network replies hops unit access = (units : List UnitState) → st.tile < length units
     → (v : List UnitState) × (v ≡ set units st.tile unit)
     × (step b fab.chip (seen_by st fab units) event ≡ Some (record {

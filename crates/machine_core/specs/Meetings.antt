@@ -40,6 +40,7 @@ pub record AreOfRun (b : Behaviour) (station : StationState) (fabric : FabricSta
 pub record MeetsCalls (places queue : ℕ) (station : StationState) (fabric : FabricState) : Type 0 where
   pub networks : NetworksFit fabric
   pub tile : station.tile < tile_count fabric.chip
+  pub cores : station.cores ≤ 16
   pub chip : station.unit.node.chip ≡ fabric.chip
   pub steps : station.unit.core.steps + 1 < 2 ^ 63
   pub delivered : station.unit.node.delivered + 1 < 2 ^ 63
