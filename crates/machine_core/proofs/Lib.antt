@@ -5,3 +5,7 @@ pub mod PossibleEvents
 pub mod Journals
 pub mod Counted
 pub mod MeetsCalls
+pub mod PrivateSteps
+pub mod FinishedMachines
+pub mod SlotTiles
+pub mod MachineSteps

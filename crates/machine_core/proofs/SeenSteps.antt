@@ -65,7 +65,7 @@ journal_noted st fab event valid =
 
 -- ---- the chip
 
-chip_with : OrderedNetwork → Network Msg → List UnitState → List Access → List Event → ℕ → ChipState
+abbrev pub chip_with : OrderedNetwork → Network Msg → List UnitState → List Access → List Event → ℕ → ChipState
 chip_with network replies units accesses journal hops = record {
   network = network;
   replies = replies;
@@ -75,7 +75,7 @@ chip_with network replies units accesses journal hops = record {
   hops = hops;
 }
 
-same_chip : (network : OrderedNetwork) (replies : Network Msg) (hops : ℕ) (u v : List UnitState) (a c : List Access) (j k : List Event) → u ≡ v → a ≡ c → j ≡ k
+pub same_chip : (network : OrderedNetwork) (replies : Network Msg) (hops : ℕ) (u v : List UnitState) (a c : List Access) (j k : List Event) → u ≡ v → a ≡ c → j ≡ k
     → chip_with network replies u a j hops ≡ chip_with network replies v c k hops
 same_chip network replies hops u v a c j k units accesses journal = rw (units, accesses, journal) refl
 
@@ -109,7 +109,7 @@ left_by st fab event network replies hops access = record fab {
 takes_by : (b : Behaviour) (st : StationState) (fab : FabricState) (event : Event) (network : OrderedNetwork) (replies : Network Msg) (hops : ℕ) (unit : UnitState) (access : Option Access)
     → IsValid (entry_of st event) → Steps b st fab event network replies hops unit access
     → TakesChip b fab.chip event st fab (settled (record st { unit = unit })) (left_by st fab event network replies hops access)
-unfolding after chip_with
+unfolding after
 takes_by b st fab event network replies hops unit access valid steps units inside =
     let (v, is, stepped) = steps units inside in
     ap (λ o. o >>= (λ new. Some (noted event new))) stepped

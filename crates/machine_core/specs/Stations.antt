@@ -1,6 +1,6 @@
 -- The station of a tile: its unit, and the core events that it did by itself and that are not in the journal yet. A chip is
 -- the fabric and the units of its stations; an event changes the fabric and the station of its own tile.
-use Rattle.std.specs.Prelude.{◌≡◌, ℕ, ◌+◌, ◌<◌, List, [], ◌∷◌, ◌++◌, length, map, replicate, set, Bool, Some, None}
+use Rattle.std.specs.Prelude.{◌≡◌, ℕ, ◌+◌, ◌<◌, List, [], ◌∷◌, ◌++◌, length, map, replicate, set, Bool, not, ◌&&◌, Some, None}
 use Rattle.std.specs.Bool.{⊤}
 use Rattle.report_text.specs.declared.access.Access.{Access}
 use Rattle.report_text.specs.declared.event.Event.{Event}
@@ -9,7 +9,8 @@ use Rattle.report_text.specs.Journals.{events_of}
 use Rattle.doc_text.specs.Doc.{Doc}
 use Rattle.chip_model.specs.Chip.{Chip, chip_of}
 use Rattle.chip_model.specs.Units.{UnitState, Behaviour, opening_unit}
-use Rattle.chip_model.specs.ChipState.{ChipState, program_of}
+use Rattle.chip_model.specs.ChipState.{ChipState, program_of, is_nil}
+use Rattle.chip_model.specs.Node.{waits_for_any}
 use Rattle.chip_model.specs.Events.{with_access}
 use Rattle.chip_model.specs.Runs.{after, enabled}
 use Rattle.fabric_core.specs.Fabric.{FabricState, entry_word}
@@ -29,6 +30,10 @@ opening_station d tile = record {
   cores = 0;
   accesses = [];
 }
+
+-- a unit's core has halted, it waits for nothing and sends nothing
+abbrev pub is_quiet : UnitState → Bool
+is_quiet unit = unit.halted && not (waits_for_any unit.node) && is_nil unit.node.out
 
 -- the units of stations
 abbrev pub units_of : List StationState → List UnitState

@@ -82,7 +82,7 @@ impl<U: Unit> Machine<U> {
         ensures within { DocIsWithin self.now.document }
         ensures reached { IsReachable U.behaviour self.now.document self.now.state }
     {
-        self.length();
+        let _ = &self.fabric;
     }
 
     /// That a machine is never stuck. At run time it does nothing.
@@ -101,12 +101,14 @@ impl<U: Unit> Machine<U> {
             ≡ slot_count (chip_of self.now.document) }
     {
         self.laws();
+        core_unit::kind_laws::<U>();
         progress_laws::chip_progress_laws();
     }
 
     // What holds of the state as of each that a run comes to. At run time it does nothing.
     pub(crate) fn laws(&self)
-        ensures { (laws : KeepsLaws U.behaviour)
+        ensures within { DocIsWithin self.now.document }
+        ensures holds { (laws : KeepsLaws U.behaviour)
             → StateHolds U.behaviour laws self.now.document self.now.state }
     {
         self.stands();
@@ -147,6 +149,8 @@ impl<U: Unit> Machine<U> {
     pub fn enabled(&self, e: Event) -> bool
         ensures { result ≡ enabled U.behaviour (chip_of self.now.document) self.now.state e }
     {
+        self.laws();
+        core_unit::kind_laws::<U>();
         match self.stations.get(usize::from(tile_of(e))) {
             Some(station) => station.can_act(&self.fabric, e),
             None => false,
@@ -164,6 +168,8 @@ impl<U: Unit> Machine<U> {
         ensures document { self.new.document ≡ self.old.document }
         ensures room { self.new.room ≡ self.old.room }
     {
+        self.laws();
+        core_unit::kind_laws::<U>();
         let at = usize::from(tile_of(e));
         if at >= self.stations.len() {
             return Err(NotEnabled);
@@ -177,6 +183,7 @@ impl<U: Unit> Machine<U> {
             (slots (chip_of self.now.document)) }
         ensures none { (result ≡ None) ↔ (finished self.now.state ≡ true) }
     {
+        self.progresses();
         for k in 0..self.slots() {
             let e = self.slot(k);
             if self.enabled(e) {

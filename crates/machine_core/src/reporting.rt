@@ -1,7 +1,8 @@
 ghost use Rattle.std.specs.Prelude.{◌≡◌, ◌≤◌, length, map, true, vec_capacity};
 ghost use Rattle.chip_model.specs.Chip.{chip_of};
 ghost use Rattle.chip_model.specs.ChipState.{finished};
-ghost use Rattle.machine_core.specs.Stations.{StationState};
+ghost use Rattle.std.specs.List.{list_all};
+ghost use Rattle.machine_core.specs.Stations.{StationState, is_quiet};
 ghost use Rattle.machine_core.specs.Machine.{report_as_performed};
 ghost use Rattle.machine_core.specs.FinalWords.{EachOwnerKeeps};
 
@@ -19,14 +20,17 @@ impl<U: Unit> Machine<U> {
         ensures { result ≡ finished self.now.state }
     {
         self.laws();
-        self.fabric.idle() && self.all_idle()
+        core_unit::kind_laws::<U>();
+        self.fabric.idle() && self.all_quiet()
     }
 
-    // Whether each core has halted and waits for nothing, and no message is in its queue.
-    fn all_idle(&self) -> bool {
+    // Whether each core has halted and waits for nothing, and no message is to be sent.
+    fn all_quiet(&self) -> bool
+        ensures { result ≡ list_all is_quiet self.now.state.units }
+    {
         let mut all = true;
         for station in self.stations.iter() {
-            all = all && station.unit.halted() && station.unit.node().idle();
+            all = all && station.quiet();
         }
         all
     }
@@ -69,6 +73,7 @@ impl<U: Unit> Machine<U> {
             → EachOwnerKeeps (chip_of self.now.document) self.now.state }
     {
         self.laws();
+        core_unit::kind_laws::<U>();
     }
 }
 

@@ -1,9 +1,11 @@
 ghost use Rattle.std.specs.Prelude.{◌≡◌, ℕ, ◌+◌, ◌*◌, ◌^◌, ◌<◌, ◌≤◌, [], ◌++◌, List, length, true, false, IfOk, OnOk, OnErr};
 ghost use Rattle.report_text.specs.declared.event.Event.TheVariants.{Core};
+ghost use Rattle.mesh_gen.specs.Limits.{most_tiles};
 ghost use Rattle.chip_model.specs.Chip.{Chip, chip_of_mesh, tile_count};
 ghost use Rattle.chip_model.specs.Units.{UnitState, opening_unit};
+ghost use Rattle.chip_model.specs.Events.{with_access};
 ghost use Rattle.fabric_core.specs.Fabric.{FabricState, event_count};
-ghost use Rattle.machine_core.specs.Stations.{StationState, IsAtStation, IsRefused, IsSettled, StaysInPlace, TakesChip, after_private, seen_by, settled};
+ghost use Rattle.machine_core.specs.Stations.{StationState, IsAtStation, IsRefused, IsSettled, StaysInPlace, TakesChip, after_private, is_quiet, seen_by, settled};
 ghost use Rattle.machine_core.specs.Meetings.{AreOfRun};
 
 use core_isa::Program;
@@ -88,6 +90,13 @@ impl<U: Unit> Station<U> {
         self.unit.core_ready()
     }
 
+    /// Whether the core has halted, waits for nothing, and no message is to be sent.
+    pub(crate) fn quiet(&self) -> bool
+        ensures { result ≡ is_quiet self.now.unit }
+    {
+        self.unit.halted() && self.unit.node().idle()
+    }
+
     /// A core event that is counted and not in the journal yet. Refused exactly where the core is not ready.
     pub fn private(&mut self) -> Result<(), NotEnabled>
         requires few { self.old.cores < 16 }
@@ -101,16 +110,28 @@ impl<U: Unit> Station<U> {
         ensures kept { OnErr result (self.new ≡ self.old) }
     {
         let access = self.unit.core_step()?;
+        self.count(access);
+        Ok(())
+    }
+
+    // A core event is counted, and its access kept.
+    fn count(&mut self, access: Option<Access>)
+        requires { self.old.cores < 16 }
+        ensures { self.new ≡ record self.old {
+            cores = self.old.cores + 1;
+            accesses = with_access access self.old.accesses;
+        } }
+    {
         if let Some(access) = access {
             self.accesses.push_reserved(access);
         }
         self.cores += 1;
-        Ok(())
     }
 
     /// The core events that are counted go into the journal, one entry each, and their accesses to the fabric.
     pub fn settle(&mut self, fabric: &mut Fabric)
         requires tile { self.old.tile < tile_count fabric.old.chip }
+        requires few { tile_count fabric.old.chip ≤ most_tiles }
         requires room { event_count fabric.old + self.old.cores ≤ fabric.old.room }
         requires accesses { length fabric.old.accesses + length self.old.accesses ≤ fabric.old.room }
         ensures station { self.new ≡ settled self.old }

@@ -17,8 +17,8 @@ conclude-requires-after_bounds g c κs lives =
     let st : StationState = record { tile = c.self.inside.tile; unit = g.U.Unit.meaning c.self.inside.unit; cores = c.self.inside.cores; accesses = c.self.inside.accesses.items } in
     let meets = rw (← c.self.view_is) at c.requires.meets in
     let room = rw (← c.self.view_is) at c.requires.room in
-    room_left LIST_PLACES QUEUE_PLACES st c.args.fabric.now c.take.new.self meets room
-    (take_room c.made.result st.tile c.args.fabric.now c.take.new.self c.in_ok-take.ensures.ok)
+    rw (← c.self.view_is) (room_left LIST_PLACES QUEUE_PLACES st c.args.fabric.now c.take.new.self meets room
+    (take_room c.made.result st.tile c.args.fabric.now c.take.new.self c.in_ok-take.ensures.ok))
 
 pub returns-clause-ok : goal.returns-clause-ok
 returns-clause-ok g c =
@@ -27,4 +27,4 @@ returns-clause-ok g c =
     let room = rw (← c.self.view_is) at c.requires.room in
     let may = may_note LIST_PLACES QUEUE_PLACES st c.args.fabric.now meets room in
     rw (← c.self.view_is) (take_done g.U.Unit.behaviour st c.conclude.new.self c.args.fabric.now c.take.new.self c.conclude.new.fabric may meets.networks
-    (rw (c.made.ensures, ← c.self.view_is) at c.in_ok-take.ensures.ok) (sym c.conclude.ensures.station) (sym c.conclude.ensures.fabric))
+    (rw (c.made.ensures, ← c.self.view_is) at c.in_ok-take.ensures.ok) (rw (← c.self.view_is) at (sym c.conclude.ensures.station)) (rw (← c.self.view_is) at (sym c.conclude.ensures.fabric)))
