@@ -1,9 +1,11 @@
 -- An event of a machine is an event of one of its stations.
-use Rattle.std.proofs.Common.{◌≡◌, ◌≢◌, ℕ, zero, suc, ◌+◌, ◌<◌, ◌≤◌, Bool, true, false, List, [], ◌∷◌, ◌++◌, Option, Some, None, length, refl, sym, ◌∙◌, ap, subst, arith, inl, inr}
-use Rattle.std.specs.Prelude.{slice_get, set, replicate, map, is_some, Contains}
+use Rattle.std.proofs.Common.{◌≡◌, ◌≢◌, ℕ, zero, suc, ◌+◌, ◌<◌, ◌≤◌, Bool, true, false, List, [], ◌∷◌, ◌++◌, Option, Some, None, length, refl, sym, ◌∙◌, ap, subst, arith, inl, inr, mul-pos}
+use Rattle.std.specs.Prelude.{slice_get, set, replicate, map, is_some, get_or, Result, Ok, Err, OnOk, OnErr}
 use Rattle.std.proofs.lemmas.Bool.{true≢false, cases_eq}
 use Rattle.std.proofs.lemmas.List.{append-nil, length-map, map-set}
-use Rattle.std.proofs.lemmas.Option.{slice_get_within, same_Some}
+use Rattle.std.proofs.lemmas.Option.{slice_get_within, slice_get-get_or, same_Some}
+use Rattle.mesh_gen.specs.Grid.{Grid, tiles}
+use Rattle.mesh_gen.specs.Routes.{HasTiles}
 use Rattle.mesh_gen.specs.Partial.{◌>>=◌}
 use Rattle.report_text.specs.declared.event.Event.{Event}
 use Rattle.report_text.specs.declared.event.Event.TheVariants.{Tick, Core, Inject, Post, Take, Eject, Send, Hop, DataHop, DataEject}
@@ -147,3 +149,29 @@ machine_refused b d fab stations t st e parts at refused =
     ap (λ (c : Chip). after b c (chip_state fab (units_of stations)) e) (sym parts.chip)
     ∙ ap (λ (s : ChipState). after b fab.chip s e) (sym (seen_is fab stations t st at place.0 place.1))
     ∙ refused (units_of stations) (inside_units stations t st at place.0)
+
+-- ---- answers
+
+pub ok_map : {V E A B C : Type 0} (r : Result V E) → OnOk r A → OnOk r B → (A → B → C) → OnOk r C
+ok_map (Ok v) a b f = f a b
+ok_map (Err e) a b f = tt
+
+pub err_map : {V E A B : Type 0} (r : Result V E) → OnErr r A → (A → B) → OnErr r B
+err_map (Ok v) a f = tt
+err_map (Err e) a f = f a
+
+pub by_result : {V E A B C D P : Type 0} (r : Result V E) → OnOk r A → OnOk r B → OnErr r C → OnErr r D → (A → B → P) → (C → D → P) → P
+by_result (Ok v) a b c d on_ok on_err = on_ok a b
+by_result (Err e) a b c d on_ok on_err = on_err c d
+
+pub tiles_some : (g : Grid) → HasTiles g → 0 < tiles g
+tiles_some g has = mul-pos has.some_column has.some_row
+
+pub there_at : {X : Type 0} (xs : List X) (k : ℕ) (x d : X) → k < length xs → x ≡ get_or xs k d → slice_get xs k ≡ Some x
+there_at xs k x d below is = slice_get-get_or xs k d below ∙ ap Some (sym is)
+
+pub units_counted : (stations : List StationState) → length (units_of stations) ≡ length stations
+units_counted stations = length-map stations (λ (s : StationState). s.unit)
+
+pub set_kept : (stations : List StationState) (t : ℕ) (st new : StationState) → slice_get stations t ≡ Some st → new ≡ st → set stations t new ≡ stations
+set_kept stations t st new at same = ap (λ (x : StationState). set stations t x) same ∙ set_same stations t st at

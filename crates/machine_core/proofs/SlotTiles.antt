@@ -33,7 +33,7 @@ unfolding IsOf
 tile_all chip t =
     all_append (IsOf t) (own_events t ++ router_hops chip t ++ reply_events chip (DataHop t)) (reply_events chip (DataEject t))
     (all_append (IsOf t) (own_events t ++ router_hops chip t) (reply_events chip (DataHop t))
-    (all_append (IsOf t) (own_events t) (router_hops chip t) (refl, refl, refl, refl, refl, refl, tt) hops)
+    (all_append (IsOf t) (own_events t) (router_hops chip t) (refl, (refl, (refl, (refl, (refl, (refl, tt)))))) hops)
     (replies (DataHop t) (λ port slot. refl)))
     (replies (DataEject t) (λ port slot. refl))
   where

@@ -151,10 +151,11 @@ impl<U: Unit> Machine<U> {
     {
         self.laws();
         core_unit::kind_laws::<U>();
-        match self.stations.get(usize::from(tile_of(e))) {
-            Some(station) => station.can_act(&self.fabric, e),
-            None => false,
+        let at = usize::from(tile_of(e));
+        if at >= self.stations.len() {
+            return false;
         }
+        self.stations[at].can_act(&self.fabric, e)
     }
 
     /// An event is done and noted. Refused exactly where it is not possible, which includes what is no tile and no channel.

@@ -1,5 +1,5 @@
+use Rattle.std.proofs.Common.{◌≡◌, sym, ◌∙◌}
 use Rattle.machine_core.proofs.machine.Machine.first_enabled.Goals as goal
-
 pub returns-then-enabled-clause-first : goal.returns-then-enabled-clause-first
 returns-then-enabled-clause-first g c = ?
 
