@@ -9,3 +9,6 @@ pub mod PrivateSteps
 pub mod FinishedMachines
 pub mod SlotTiles
 pub mod MachineSteps
+pub mod OwnersKeep
+pub mod Openings
+pub mod FirstEvents

@@ -1,4 +1,5 @@
 use Rattle.std.proofs.Common.{◌≡◌, ◌∙◌, sym, subst, ap, arith}
+use Rattle.std.specs.Prelude.{set}
 use Rattle.chip_model.specs.Chip.{chip_of}
 use Rattle.fabric_core.specs.Fabric.{FabricState}
 use Rattle.machine_core.specs.Machine.{AreParts}
@@ -66,7 +67,7 @@ invariant_of-self g c =
     (rw c.deref_mut.ensures.value at c.perform.ensures.fabric_kept)
     (λ takes stays. parts_after b d fab new_fab stations t st new c.args.e c.self.invariant at takes stays)
     (λ kept fabric_kept.
-    subst (λ (f : FabricState). AreParts b d f (_)) (sym fabric_kept) (subst (AreParts b d fab) (sym (set_kept stations t st new at kept)) c.self.invariant))
+    subst (λ (f : FabricState). AreParts b d f (set stations t new)) (sym fabric_kept) (subst (AreParts b d fab) (sym (set_kept stations t st new at kept)) c.self.invariant))
 
 pub returns-clause-ok : goal.returns-clause-ok
 returns-clause-ok g c =
