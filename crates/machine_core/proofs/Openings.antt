@@ -2,8 +2,10 @@
 use Rattle.std.proofs.Common.{◌≡◌, ℕ, zero, suc, ◌+◌, ◌*◌, ◌^◌, ◌<◌, ◌≤◌, List, [], ◌∷◌, ◌++◌, Option, Some, None, length, get_or, refl, sym, ◌∙◌, ap, subst, arith, mul-le-mul}
 use Rattle.std.specs.Prelude.{slice_get, map}
 use Rattle.std.proofs.Math.Logic.{∥∥₁_elim}
-use Rattle.std.proofs.lemmas.List.{map-append, append-nil}
-use Rattle.std.proofs.lemmas.Option.{same_Some}
+use Rattle.std.proofs.lemmas.List.{map-append, append-nil, length-map}
+use Rattle.std.proofs.lemmas.Grind.{flat_map-append}
+use Rattle.std.specs.List.{flat_map}
+use Rattle.std.proofs.lemmas.Option.{same_Some, slice_get-get_or}
 use Rattle.mesh_gen.specs.Limits.{AreTiles, most_tiles}
 use Rattle.mesh_gen.proofs.Controllers.{AreTiles-prop}
 use Rattle.order_tracker.specs.Order.{upwards}
@@ -86,3 +88,32 @@ upwards_last first (suc count) =
 
 pub one_more : {X : Type 0} (f : ℕ → X) (t : ℕ) → map f (upwards 0 (t + 1)) ≡ map f (upwards 0 t) ++ f t ∷ []
 one_more f t = ap (map f) (upwards_last 0 t ∙ ap (λ n. upwards 0 t ++ n ∷ []) (omega arith)) ∙ map-append f (upwards 0 t) (t ∷ [])
+
+pub opened_count : (d : Doc) (t : ℕ) → length (map (opening_station d) (upwards 0 t)) ≡ t
+opened_count d t = length-map (upwards 0 t) (opening_station d) ∙ counted 0 t
+  where
+    counted : (first count : ℕ) → length (upwards first count) ≡ count
+    counted first zero = refl
+    counted first (suc count) = ap suc (counted (first + 1) count)
+
+get_or_any : {X : Type 0} (xs : List X) (k : ℕ) (a b : X) → k < length xs → get_or xs k a ≡ get_or xs k b
+get_or_any xs k a b below = same_Some (get_or xs k a) (get_or xs k b) (sym (slice_get-get_or xs k a below) ∙ slice_get-get_or xs k b below)
+
+-- a station that is opened on its tile's program and the document's memory
+pub station_opened : (document : Document) (t i : ℕ) (st : StationState) (program found : List Instr) (programs : List (List Instr)) (memory : List ℕ)
+    → st ≡ record { tile = t; unit = opening_unit (chip_of_mesh document.mesh) t program memory; cores = 0; accesses = [] }
+    → program ≡ found → found ≡ get_or programs i found → programs ≡ document.programs → i ≡ t → memory ≡ document.memory → t < length document.programs
+    → st ≡ opening_station (doc_of document) t
+station_opened document t i st program found programs memory is copied read same index words below =
+    let here : program ≡ program_of (doc_of document) t =
+    copied ∙ read ∙ ap (λ (list : List (List Instr)). get_or list i found) same ∙ ap (λ n. get_or document.programs n found) index ∙ get_or_any document.programs t found [] below in
+    is ∙ ap (λ (p : List Instr). opened_with p memory) here ∙ ap (opened_with (program_of (doc_of document) t)) words
+  where
+    opened_with : List Instr → List ℕ → StationState
+    opened_with p m = record { tile = t; unit = opening_unit (chip_of_mesh document.mesh) t p m; cores = 0; accesses = [] }
+
+pub flat_more : {X : Type 0} (f : ℕ → List X) (k : ℕ) → flat_map f (upwards 0 (k + 1)) ≡ flat_map f (upwards 0 k) ++ f k
+flat_more f k =
+    ap (flat_map f) (upwards_last 0 k ∙ ap (λ n. upwards 0 k ++ n ∷ []) (omega arith))
+    ∙ flat_map-append f (upwards 0 k) (k ∷ [])
+    ∙ ap (λ rest. flat_map f (upwards 0 k) ++ rest) (append-nil (f k))

@@ -38,6 +38,7 @@ pub(crate) fn final_memory<U: Unit>(
 fn push_words(memory: &mut Vec<u32>, words: Option<Words>)
     requires { length memory.old.items + 4 ≤ vec_capacity memory.old }
     ensures words { memory.new.items ≡ memory.old.items ++ unwrap_or words (0 ∷ 0 ∷ 0 ∷ 0 ∷ []) }
+    ensures count { length memory.new.items ≡ length memory.old.items + 4 }
     ensures room { vec_capacity memory.new ≡ vec_capacity memory.old }
 {
     let four = words.unwrap_or([0; 4]);

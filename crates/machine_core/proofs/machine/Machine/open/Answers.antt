@@ -16,4 +16,4 @@ invariant_of-result g c =
 pub returns-clause-state : goal.returns-clause-state
 returns-clause-state g c =
     let d = doc_of c.args.document in
-    rw (c.in_ok-fabric.ensures, c.in_ok-stations.ensures) (state_opened d _)
+    rw (c.in_ok-fabric.ensures, c.in_ok-stations.ensures) (state_opened d 0)
