@@ -12,3 +12,4 @@ pub mod MachineSteps
 pub mod OwnersKeep
 pub mod Openings
 pub mod FirstEvents
+pub mod Reported

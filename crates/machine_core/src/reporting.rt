@@ -1,4 +1,4 @@
-ghost use Rattle.std.specs.Prelude.{◌≡◌, ◌≤◌, length, map, true, vec_capacity};
+ghost use Rattle.std.specs.Prelude.{◌≡◌, ◌≤◌, if◌then◌else◌, length, map, true, vec_capacity};
 ghost use Rattle.chip_model.specs.Chip.{chip_of};
 ghost use Rattle.chip_model.specs.ChipState.{finished};
 ghost use Rattle.std.specs.List.{list_all};
@@ -39,8 +39,10 @@ impl<U: Unit> Machine<U> {
     pub fn into_report(self) -> Report
         ensures { result ≡ report_as_performed self }
     {
-        let is_finished = self.finished();
+        self.laws();
+        core_unit::kind_laws::<U>();
         self.owners_keep();
+        let is_finished = self.finished();
         let Machine {
             fabric,
             stations,
@@ -59,11 +61,7 @@ impl<U: Unit> Machine<U> {
             journal: lists.journal,
             windows: lists.windows,
             hops: lists.hops,
-            ended: if is_finished {
-                Finish::Finished
-            } else {
-                Finish::Budget
-            },
+            ended: finish_of(is_finished),
         }
     }
 
@@ -74,6 +72,17 @@ impl<U: Unit> Machine<U> {
     {
         self.laws();
         core_unit::kind_laws::<U>();
+    }
+}
+
+// How a run ended.
+fn finish_of(is_finished: bool) -> Finish
+    ensures { result ≡ (if is_finished then Finish.Finished else Finish.Budget) }
+{
+    if is_finished {
+        Finish::Finished
+    } else {
+        Finish::Budget
     }
 }
 

@@ -1,4 +1,6 @@
-use Rattle.std.proofs.Common.{◌≡◌, ◌<◌, ◌+◌, ◌∷◌, ◌++◌, [], ◌∙◌, sym, ap, arith, length}
+use Rattle.std.proofs.Common.{List, ◌≡◌, ◌<◌, ◌+◌, ◌∷◌, ◌++◌, [], ◌∙◌, sym, ap, arith, length}
+use Rattle.std.specs.Prelude.{map}
+use Rattle.order_tracker.specs.Order.{upwards}
 use Rattle.doc_text.specs.Doc.{doc_of}
 use Rattle.machine_core.specs.Stations.{StationState, opening_station}
 use Rattle.machine_core.proofs.Openings.{one_more, opened_count, station_opened}
@@ -18,7 +20,7 @@ loop-t-preserved g c =
     (
       c.push_reserved.ensures.items
       ∙ ap (λ (list : List StationState). list ++ c.in_ok-open.field-0 ∷ []) c.loop-t.invariant.0
-      ∙ ap (λ (st : StationState). _ ++ st ∷ []) made
+      ∙ ap (λ (st : StationState). map (opening_station (doc_of document)) (upwards 0 c.loop-t.t) ++ st ∷ []) made
       ∙ sym (one_more (opening_station (doc_of document)) c.loop-t.t),
       omega (arith, c.loop-t.invariant.1, c.push_reserved.ensures.capacity),
     )
