@@ -1,26 +1,24 @@
 -- In every state that a run comes to, no core has done more instructions, no tile has delivered more requests, and no more
 -- accesses were performed, than there are events.
-use Rattle.std.proofs.Common.{◌≡◌, ℕ, zero, suc, ◌+◌, ◌≤◌, List, [], ◌∷◌, ◌++◌, Option, Some, None, length, refl, sym, ◌∙◌, ap, subst, arith, inl, inr, zero-add}
-use Rattle.std.specs.Prelude.{slice_get, true, map}
+use Rattle.std.proofs.Common.{◌≡◌, ℕ, zero, suc, ◌+◌, ◌≤◌, List, [], ◌∷◌, Option, Some, None, length, refl, sym, ◌∙◌, ap, subst, arith, inl, inr, zero-add}
+use Rattle.std.specs.Prelude.{slice_get, map}
 use Rattle.std.proofs.lemmas.List.{length-append}
 use Rattle.std.proofs.lemmas.Option.{same_Some}
-use Rattle.mesh_gen.specs.Partial.{◌>>=◌}
 use Rattle.report_text.specs.declared.access.Access.{Access}
 use Rattle.report_text.specs.declared.event.Event.{Event}
 use Rattle.report_text.specs.declared.event.Event.TheVariants.{Tick, Core, Inject, Post, Take, Eject, Send, Hop, DataHop, DataEject}
 use Rattle.doc_text.specs.Doc.{Doc}
 use Rattle.order_tracker.specs.Order.{upwards}
-use Rattle.chip_model.specs.Chip.{Chip, chip_of, tile_count}
+use Rattle.chip_model.specs.Chip.{chip_of, tile_count}
 use Rattle.chip_model.specs.NodeShape.{IsCache}
 use Rattle.chip_model.specs.Node.{Node, node_after_request, after_request_sent, after_message_sent}
 use Rattle.chip_model.specs.Units.{UnitState, Acted, Behaviour, opening_unit}
 use Rattle.chip_model.specs.ChipState.{ChipState, opening, program_of}
-use Rattle.chip_model.specs.Events.{step, with_access}
+use Rattle.chip_model.specs.Events.{with_access}
 use Rattle.chip_model.specs.Runs.{noted, after, run}
 use Rattle.chip_model.specs.BehaviourLaws.{KeepsLaws, Works}
 use Rattle.chip_model.specs.ChipInvariant.{ProtocolHolds}
 use Rattle.chip_laws.specs.DocFits.{DocFits}
-use Rattle.chip_laws.specs.Meetings.{UnitsFit}
 use Rattle.chip_laws.specs.EventSteps.{ChangesUnit, EventDoes}
 use Rattle.chip_laws.proofs.EventSteps.{event_does}
 use Rattle.chip_laws.proofs.Options.{bind}
@@ -32,7 +30,6 @@ use Rattle.core_unit.specs.Counts.{CountsOne}
 use Rattle.supply_laws.specs.Reachable.{StateHolds}
 use Rattle.supply_laws.proofs.ReachedStates.{IsKept, noted_after}
 use Rattle.supply_laws.proofs.NotedStates.{noted_state}
-use Rattle.machine_core.proofs.Journals.{step_journal}
 
 -- a unit has done so many instructions and delivered so many requests at most
 pub record UnitCounted (n : ℕ) (unit : UnitState) : Type 0 where

@@ -1,13 +1,11 @@
 -- A chip is finished exactly where the fabric has nothing left and each unit is quiet.
-use Rattle.std.proofs.Common.{◌≡◌, ℕ, zero, suc, Bool, true, false, not, ◌&&◌, ◌==◌, List, [], ◌∷◌, Option, Some, length, refl, sym, ◌∙◌, ap, arith}
+use Rattle.std.proofs.Common.{◌≡◌, ℕ, suc, Bool, true, false, ◌&&◌, ◌==◌, List, [], ◌∷◌, Some, length, refl, sym, ◌∙◌, ap, arith}
 use Rattle.std.specs.Prelude.{slice_get}
 use Rattle.std.specs.List.{list_all}
 use Rattle.doc_text.specs.Doc.{Doc}
-use Rattle.chip_model.specs.Chip.{chip_of}
-use Rattle.chip_model.specs.OrderedNetwork.{Interface}
 use Rattle.chip_model.specs.Replies.{is_empty}
 use Rattle.chip_model.specs.Units.{UnitState}
-use Rattle.chip_model.specs.ChipState.{ChipState, is_done, finished}
+use Rattle.chip_model.specs.ChipState.{ChipState, finished}
 use Rattle.chip_model.specs.ChipInvariant.{ProtocolHolds}
 use Rattle.fabric_core.specs.Fabric.{has_delivered}
 use Rattle.machine_core.specs.Stations.{is_quiet}

@@ -1,6 +1,6 @@
 -- The journal of a run: a step leaves it, an event is noted at its end, and so it leads to the state after the event.
 use Rattle.std.specs.Prelude.{slice_get}
-use Rattle.std.proofs.Common.{◌≡◌, ℕ, ◌+◌, List, [], ◌∷◌, ◌++◌, Option, Some, None, refl, sym, ◌∙◌, ap, subst}
+use Rattle.std.proofs.Common.{◌≡◌, ◌+◌, List, [], ◌∷◌, ◌++◌, Option, Some, refl, sym, ◌∙◌, ap, subst}
 use Rattle.std.proofs.lemmas.Option.{same_Some}
 use Rattle.mesh_gen.specs.Partial.{when, ◌>>=◌}
 use Rattle.report_text.specs.declared.event.Event.{Event}
@@ -13,7 +13,7 @@ use Rattle.chip_model.specs.Misses.{wanted}
 use Rattle.chip_model.specs.Node.{after_request_sent, after_message_sent}
 use Rattle.chip_model.specs.OrderedNetwork.{after_inject, after_request_post, after_network_tick, after_vector_take, after_copy_hop, after_delivery}
 use Rattle.chip_model.specs.Replies.{after_send, after_data_hop, after_data_eject}
-use Rattle.chip_model.specs.Runs.{noted, after, run}
+use Rattle.chip_model.specs.Runs.{after, run}
 use Rattle.chip_laws.proofs.Options.{bind, when_some}
 use Rattle.supply_laws.proofs.ReachedStates.{noted_after}
 

@@ -1,7 +1,7 @@
 -- An event of a machine is an event of one of its stations.
-use Rattle.std.proofs.Common.{◌≡◌, ◌≢◌, ℕ, zero, suc, ◌+◌, ◌<◌, ◌≤◌, Bool, true, false, List, [], ◌∷◌, ◌++◌, Option, Some, None, length, refl, sym, ◌∙◌, ap, subst, arith, inl, inr, mul-pos}
-use Rattle.std.specs.Prelude.{slice_get, set, replicate, map, is_some, get_or, Result, Ok, Err, OnOk, OnErr}
-use Rattle.std.proofs.lemmas.Bool.{true≢false, cases_eq}
+use Rattle.std.proofs.Common.{◌≡◌, ℕ, zero, suc, ◌<◌, ◌≤◌, Bool, true, false, List, [], ◌∷◌, ◌++◌, Option, Some, None, length, refl, sym, ◌∙◌, ap, subst, arith, inl, inr, mul-pos}
+use Rattle.std.specs.Prelude.{slice_get, set, replicate, is_some, get_or, Result, Ok, Err, OnOk, OnErr}
+use Rattle.std.proofs.lemmas.Bool.{cases_eq}
 use Rattle.std.proofs.lemmas.List.{append-nil, length-map, map-set}
 use Rattle.std.proofs.lemmas.Option.{slice_get_within, slice_get-get_or, same_Some}
 use Rattle.mesh_gen.specs.Grid.{Grid, tiles}
@@ -12,8 +12,7 @@ use Rattle.report_text.specs.declared.event.Event.TheVariants.{Tick, Core, Injec
 use Rattle.report_text.specs.Journals.{events_of}
 use Rattle.doc_text.specs.Doc.{Doc}
 use Rattle.chip_model.specs.Chip.{Chip, chip_of, tile_count}
-use Rattle.chip_model.specs.Schedules.{slots}
-use Rattle.chip_model.specs.Units.{UnitState, Behaviour}
+use Rattle.chip_model.specs.Units.{Behaviour}
 use Rattle.chip_model.specs.ChipState.{ChipState, opening}
 use Rattle.chip_model.specs.Events.{step}
 use Rattle.chip_model.specs.Runs.{noted, after, enabled, run}

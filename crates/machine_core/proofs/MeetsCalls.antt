@@ -1,7 +1,7 @@
 -- What the calls of a station's events ask follows from what holds of every state that a run comes to.
-use Rattle.std.proofs.Common.{◌≡◌, ℕ, false, ◌+◌, ◌^◌, ◌<◌, ◌≤◌, List, ◌++◌, Option, Some, length, refl, sym, ◌∙◌, ap, subst, arith}
-use Rattle.std.specs.Prelude.{slice_get, set, replicate}
-use Rattle.std.proofs.lemmas.List.{length-append, length-replicate, length-set}
+use Rattle.std.proofs.Common.{◌≡◌, ℕ, false, ◌+◌, ◌<◌, ◌≤◌, List, Some, length, refl, sym, ◌∙◌, ap, subst, arith}
+use Rattle.std.specs.Prelude.{slice_get, replicate}
+use Rattle.std.proofs.lemmas.List.{length-append, length-replicate}
 use Rattle.mesh_gen.specs.declared.msg.Msg.{Msg}
 use Rattle.mesh_gen.specs.declared.port.Port.{Port}
 use Rattle.mesh_gen.specs.declared.request.Request.{Request}
@@ -14,7 +14,7 @@ use Rattle.report_text.specs.Journals.{events_of}
 use Rattle.doc_text.specs.Doc.{Doc}
 use Rattle.chip_model.specs.Chip.{Chip, chip_of, tile_count}
 use Rattle.chip_model.specs.NetworkFits.{NetworkFits}
-use Rattle.chip_model.specs.NetworkShape.{HasChannels, MessageFits}
+use Rattle.chip_model.specs.NetworkShape.{HasChannels}
 use Rattle.chip_model.specs.OrderedNetwork.{OrderedNetwork, after_delivery}
 use Rattle.chip_model.specs.Replies.{after_data_eject}
 use Rattle.chip_model.specs.Units.{UnitState, Behaviour}
@@ -35,7 +35,7 @@ use Rattle.machine_core.specs.Stations.{StationState, seen_by}
 use Rattle.machine_core.specs.Meetings.{AreOfRun, MeetsCalls}
 use Rattle.machine_core.proofs.SeenSteps.{set_there, made_by}
 use Rattle.machine_core.proofs.StationEvents.{SameRoom, delivery_came, arrival_came}
-use Rattle.machine_core.proofs.Counted.{IsCounted, reached_counted}
+use Rattle.machine_core.proofs.Counted.{reached_counted}
 
 -- what deliveries and arrivals meet, as the laws below say it
 abbrev pub DeliveriesMeet : ℕ → ℕ → Type 0

@@ -1,26 +1,25 @@
 -- A machine before any event.
-use Rattle.std.proofs.Common.{◌≡◌, ℕ, zero, suc, ◌+◌, ◌*◌, ◌^◌, ◌<◌, ◌≤◌, List, [], ◌∷◌, ◌++◌, Option, Some, None, length, get_or, refl, sym, ◌∙◌, ap, subst, arith, mul-le-mul}
+use Rattle.std.proofs.Common.{◌≡◌, ℕ, zero, suc, ◌+◌, ◌*◌, ◌^◌, ◌<◌, ◌≤◌, List, [], ◌∷◌, ◌++◌, Some, length, get_or, refl, sym, ◌∙◌, ap, subst, arith, mul-le-mul}
 use Rattle.std.specs.Prelude.{slice_get, map}
 use Rattle.std.proofs.Math.Logic.{∥∥₁_elim}
 use Rattle.std.proofs.lemmas.List.{map-append, append-nil, length-map}
 use Rattle.std.proofs.lemmas.Grind.{flat_map-append}
 use Rattle.std.specs.List.{flat_map}
 use Rattle.std.proofs.lemmas.Option.{same_Some, slice_get-get_or}
-use Rattle.mesh_gen.specs.Limits.{AreTiles, most_tiles}
+use Rattle.mesh_gen.specs.Limits.{most_tiles}
 use Rattle.mesh_gen.proofs.Controllers.{AreTiles-prop}
 use Rattle.order_tracker.specs.Order.{upwards}
 use Rattle.core_isa.specs.declared.instr.Instr.{Instr}
 use Rattle.doc_text.specs.declared.document.Document.{Document}
 use Rattle.doc_text.specs.Doc.{Doc, doc_of}
-use Rattle.chip_model.specs.Chip.{Chip, chip_of, chip_of_mesh, tile_count}
+use Rattle.chip_model.specs.Chip.{chip_of, chip_of_mesh, tile_count}
 use Rattle.chip_model.specs.Units.{UnitState, Behaviour, opening_unit}
 use Rattle.chip_model.specs.ChipState.{ChipState, opening, program_of}
 use Rattle.chip_model.specs.Runs.{run, IsReachable}
-use Rattle.chip_laws.specs.DocFits.{DocFits}
-use Rattle.fabric_core.specs.Fabric.{FabricState, opening_fabric}
+use Rattle.fabric_core.specs.Fabric.{opening_fabric}
 use Rattle.machine_core.specs.Stations.{StationState, IsSettled, chip_state, opening_station, units_of}
 use Rattle.machine_core.specs.Meetings.{DocIsWithin}
-use Rattle.machine_core.specs.Machine.{AreInPlace, AreParts}
+use Rattle.machine_core.specs.Machine.{AreParts}
 
 -- a document is within its limits
 pub document_within : (document : Document) → DocIsWithin (doc_of document)

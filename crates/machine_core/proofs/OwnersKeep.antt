@@ -1,6 +1,5 @@
 -- In a finished chip the owner of each line keeps its words, and they are the final words.
-use Rattle.std.proofs.Common.{◌≡◌, ℕ, ◌<◌, Bool, true, false, not, ◌==◌, ◌||◌, List, [], Option, Some, None, is_some, option_map, unwrap_or, length, get_or, sym, ap, ◌∙◌, refl, subst, arith}
-use Rattle.std.specs.Prelude.{slice_get}
+use Rattle.std.proofs.Common.{◌≡◌, ℕ, ◌<◌, Bool, true, false, ◌==◌, ◌||◌, List, [], Option, Some, None, is_some, option_map, unwrap_or, length, get_or, sym, ap, ◌∙◌, refl, subst, arith}
 use Rattle.std.proofs.lemmas.Bool.{eq-eqb, false≢true}
 use Rattle.std.proofs.lemmas.List.{take_all}
 use Rattle.mesh_gen.specs.declared.request.Request.{Request}

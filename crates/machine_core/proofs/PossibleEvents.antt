@@ -1,6 +1,6 @@
 -- Whether an event of a station is possible: the fabric's answer is that of the chip that the station sees.
-use Rattle.std.proofs.Common.{◌≡◌, ℕ, ◌+◌, Bool, true, false, Option, Some, None, refl, sym, ◌∙◌, ap}
-use Rattle.std.specs.Prelude.{slice_get, set, is_some}
+use Rattle.std.proofs.Common.{◌≡◌, ℕ, Bool, true, false, Option, Some, None, refl}
+use Rattle.std.specs.Prelude.{slice_get, is_some}
 use Rattle.mesh_gen.specs.declared.kind.Kind.{Kind}
 use Rattle.mesh_gen.specs.declared.msg.Msg.{Msg}
 use Rattle.mesh_gen.specs.declared.port.Port.{Port}
@@ -10,11 +10,11 @@ use Rattle.report_text.specs.declared.event.Event.TheVariants.{Tick, Core, Injec
 use Rattle.chip_model.specs.OrderedNetwork.{after_inject, after_request_post, after_network_tick, after_vector_take, after_copy_hop, after_delivery}
 use Rattle.chip_model.specs.Replies.{after_send, after_data_hop, after_data_eject}
 use Rattle.chip_model.specs.Misses.{wanted}
-use Rattle.chip_model.specs.Units.{UnitState, Behaviour}
+use Rattle.chip_model.specs.Units.{Behaviour}
 use Rattle.chip_model.specs.Events.{step, unit_at}
 use Rattle.chip_model.specs.Runs.{enabled}
 use Rattle.fabric_core.specs.Fabric.{FabricState, fabric_after_inject, fabric_after_post, fabric_after_tick, fabric_after_take, fabric_after_hop, fabric_after_send, fabric_after_data_hop, fabric_after_eject, fabric_after_data_eject}
-use Rattle.machine_core.specs.Stations.{StationState, Tells, seen_by}
+use Rattle.machine_core.specs.Stations.{StationState, Tells}
 use Rattle.machine_core.proofs.SeenSteps.{set_there, made_by}
 
 -- whether a step is possible does not depend on what is made of it

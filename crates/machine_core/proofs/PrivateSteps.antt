@@ -1,26 +1,21 @@
 -- Core events that are counted and not in the journal, and how they come into it.
-use Rattle.std.proofs.Common.{◌≡◌, ℕ, zero, suc, ◌+◌, ◌<◌, ◌≤◌, true, false, List, [], ◌∷◌, ◌++◌, Option, Some, None, length, refl, sym, ◌∙◌, ap, subst, arith}
+use Rattle.std.proofs.Common.{◌≡◌, ℕ, zero, suc, ◌+◌, ◌<◌, ◌≤◌, true, false, List, [], ◌∷◌, ◌++◌, Option, Some, None, length, refl, sym, ◌∙◌, ap, arith}
 use Rattle.std.specs.Prelude.{slice_get, set, replicate}
 use Rattle.std.proofs.lemmas.List.{append_assoc, append-nil, length-append, length-replicate}
-use Rattle.mesh_gen.specs.Partial.{when, ◌>>=◌}
 use Rattle.report_text.specs.declared.access.Access.{Access}
 use Rattle.report_text.specs.declared.entry.Entry.{Entry}
 use Rattle.report_text.specs.declared.event.Event.{Event}
 use Rattle.report_text.specs.declared.event.Event.TheVariants.{Core}
-use Rattle.report_text.specs.Entry.{IsValid}
 use Rattle.report_text.specs.Journals.{events_of}
 use Rattle.report_text.proofs.Journals.{events_of-append}
 use Rattle.chip_model.specs.Chip.{Chip, tile_count}
-use Rattle.chip_model.specs.OrderedNetwork.{OrderedNetwork}
-use Rattle.mesh_gen.specs.declared.msg.Msg.{Msg}
-use Rattle.vc_bank.specs.Places.{Network}
 use Rattle.chip_model.specs.Units.{UnitState, Behaviour}
 use Rattle.chip_model.specs.ChipState.{ChipState}
 use Rattle.chip_model.specs.Events.{with_access, with_acted, step, unit_at}
 use Rattle.chip_model.specs.Runs.{noted, after}
 use Rattle.fabric_core.specs.Fabric.{FabricState, MayNote, entry_word, event_count, alone, noted as fabric_noted}
 use Rattle.machine_core.specs.Stations.{StationState, IsRefused, TakesChip, after_private, seen_by, settled}
-use Rattle.machine_core.proofs.SeenSteps.{set_there, set_twice, same_chip, chip_with}
+use Rattle.machine_core.proofs.SeenSteps.{set_there, set_twice, same_chip}
 
 pub with_access-append : (access : Option Access) (xs ys : List Access) → with_access access (xs ++ ys) ≡ xs ++ with_access access ys
 with_access-append None xs ys = refl

@@ -1,20 +1,17 @@
 -- The report of a machine is that of its state, part by part.
-use Rattle.std.proofs.Common.{◌≡◌, ℕ, zero, suc, Bool, List, [], ◌∷◌, ◌++◌, Some, length, refl, sym, ◌∙◌, ap, arith, if◌then◌else◌}
+use Rattle.std.proofs.Common.{◌≡◌, ℕ, suc, Bool, List, [], ◌∷◌, Some, length, refl, sym, ◌∙◌, ap, arith, if◌then◌else◌}
 use Rattle.std.specs.Prelude.{slice_get, map}
-use Rattle.std.specs.List.{flat_map}
 use Rattle.mesh_gen.specs.declared.request.Request.{Request}
-use Rattle.order_tracker.specs.Order.{upwards}
 use Rattle.report_text.specs.declared.access.Access.{Access}
 use Rattle.report_text.specs.declared.event.Event.{Event}
 use Rattle.report_text.specs.declared.finish.Finish.{Finish}
 use Rattle.report_text.specs.declared.finish.Finish.TheVariants.{Finished, Budget}
 use Rattle.report_text.specs.declared.report.Report.{Report}
 use Rattle.doc_text.specs.Doc.{Doc}
-use Rattle.chip_model.specs.Chip.{chip_of}
 use Rattle.chip_model.specs.OrderedNetwork.{Interface}
 use Rattle.chip_model.specs.Units.{UnitState}
 use Rattle.chip_model.specs.ChipState.{ChipState, finished}
-use Rattle.chip_model.specs.Reports.{final_words, final_memory, report_of}
+use Rattle.chip_model.specs.Reports.{final_memory, report_of}
 use Rattle.chip_model.specs.ChipInvariant.{ProtocolHolds}
 use Rattle.net_iface.specs.OrderedNet.{delivered_counts}
 use Rattle.fabric_core.specs.declared.lists.FabricLists.{FabricLists}
@@ -47,7 +44,7 @@ steps_is (station ∷ stations) = ap (λ rest. station.unit.core.steps ∷ rest)
 same_report : (requests : List Request) (accesses : List Access) (journal : List Event) (windows hops : ℕ) (seen seen_now steps steps_now memory memory_now : List ℕ) (ended ended_now : Finish)
     → seen ≡ seen_now → steps ≡ steps_now → memory ≡ memory_now → ended ≡ ended_now
     → ◌≡◌ {A = Report} (record { requests = requests; seen = seen; steps = steps; accesses = accesses; memory = memory; journal = journal; windows = windows; hops = hops; ended = ended })
-      (record { requests = requests; seen = seen_now; steps = steps_now; accesses = accesses; memory = memory_now; journal = journal; windows = windows; hops = hops; ended = ended_now })
+    (record { requests = requests; seen = seen_now; steps = steps_now; accesses = accesses; memory = memory_now; journal = journal; windows = windows; hops = hops; ended = ended_now })
 same_report requests accesses journal windows hops seen seen_now steps steps_now memory memory_now ended ended_now is_seen is_steps is_memory is_ended = rw (is_seen, is_steps, is_memory, is_ended) refl
 
 pub report_is : (d : Doc) (fab : FabricState) (stations : List StationState) (lists : FabricLists) (is_finished : Bool) (steps memory : List ℕ) (ended : Finish)
@@ -56,7 +53,7 @@ pub report_is : (d : Doc) (fab : FabricState) (stations : List StationState) (li
     → memory ≡ (if is_finished then final_memory d (chip_state fab (units_of stations)) else [])
     → ended ≡ (if is_finished then Finished else Budget)
     → ◌≡◌ {A = Report} (record { requests = lists.requests; seen = lists.seen; steps = steps; accesses = lists.accesses; memory = memory; journal = lists.journal; windows = lists.windows; hops = lists.hops; ended = ended })
-      (report_as_performed (machine_of d fab stations))
+    (report_as_performed (machine_of d fab stations))
 unfolding report_of
 report_is d fab stations lists is_finished steps memory ended holds over lists_are steps_are memory_is ended_is =
     let s = chip_state fab (units_of stations) in

@@ -1,21 +1,17 @@
 -- What an event of the fabric, with a call of a unit, is to the chip that a station sees.
-use Rattle.std.proofs.Common.{◌≡◌, ℕ, zero, suc, ◌+◌, ◌<◌, Bool, true, false, List, [], ◌∷◌, ◌++◌, Option, Some, None, length, refl, sym, ◌∙◌, ap, subst, arith}
-use Rattle.std.specs.Prelude.{slice_get, set, replicate, is_some}
+use Rattle.std.proofs.Common.{◌≡◌, ℕ, zero, suc, ◌<◌, List, [], ◌∷◌, ◌++◌, Option, Some, None, length, refl, sym, ◌∙◌, ap, subst, arith}
+use Rattle.std.specs.Prelude.{slice_get, set, replicate}
 use Rattle.std.proofs.lemmas.List.{append_assoc, append-nil}
-use Rattle.mesh_gen.specs.declared.kind.Kind.{Kind}
 use Rattle.mesh_gen.specs.declared.msg.Msg.{Msg}
-use Rattle.mesh_gen.specs.declared.port.Port.{Port}
-use Rattle.mesh_gen.specs.declared.request.Request.{Request}
-use Rattle.mesh_gen.specs.Partial.{when, ◌>>=◌}
+use Rattle.mesh_gen.specs.Partial.{◌>>=◌}
 use Rattle.vc_bank.specs.Places.{Network}
 use Rattle.report_text.specs.declared.access.Access.{Access}
 use Rattle.report_text.specs.declared.entry.Entry.{Entry}
 use Rattle.report_text.specs.declared.event.Event.{Event}
-use Rattle.report_text.specs.declared.event.Event.TheVariants.{Tick, Core, Inject, Post, Take, Eject, Send, Hop, DataHop, DataEject}
+use Rattle.report_text.specs.declared.event.Event.TheVariants.{Core}
 use Rattle.report_text.specs.Entry.{IsValid}
 use Rattle.report_text.specs.Journals.{events_of}
 use Rattle.report_text.proofs.Journals.{events_of-append}
-use Rattle.chip_model.specs.Chip.{Chip}
 use Rattle.chip_model.specs.OrderedNetwork.{OrderedNetwork}
 use Rattle.chip_model.specs.Units.{UnitState, Behaviour}
 use Rattle.chip_model.specs.ChipState.{ChipState}
@@ -23,7 +19,7 @@ use Rattle.chip_model.specs.Events.{with_access, step}
 use Rattle.chip_model.specs.Runs.{noted, after}
 use Rattle.fabric_core.specs.declared.made.Made.{Made}
 use Rattle.fabric_core.specs.Fabric.{FabricState, entry_word}
-use Rattle.machine_core.specs.Stations.{StationState, IsDone, IsRefused, IsSettled, StaysInPlace, TakesChip, seen_by, settled}
+use Rattle.machine_core.specs.Stations.{StationState, IsDone, IsRefused, TakesChip, seen_by, settled}
 
 -- ---- lists
 

@@ -1,5 +1,5 @@
 -- Each slot is of a tile of the chip.
-use Rattle.std.proofs.Common.{◌≡◌, ℕ, zero, suc, ◌+◌, ◌<◌, List, [], ◌∷◌, ◌++◌, length, get_or, refl, sym, ◌∙◌, subst, arith}
+use Rattle.std.proofs.Common.{◌≡◌, ℕ, zero, suc, ◌+◌, ◌<◌, List, [], ◌∷◌, ◌++◌, length, get_or, refl, sym, subst, arith}
 use Rattle.std.specs.Prelude.{map, Contains}
 use Rattle.std.specs.List.{flat_map, AllByRecursion}
 use Rattle.std.proofs.lemmas.List.Concat.{flat_map-cons}
@@ -39,11 +39,13 @@ tile_all chip t =
   where
     from : (port : Port) (slot : ℕ) → AllByRecursion (λ e. tile_of e ≡ t) (hops_from t port slot)
     from port slot = all_map (λ e. tile_of e ≡ t) (Hop t port slot) (λ out. refl) output_ports
+
     hops : AllByRecursion (λ e. tile_of e ≡ t) (router_hops chip t)
     hops =
         all_append (λ e. tile_of e ≡ t) (flat_map (hops_from t L) (upwards 0 chip.vcs)) (flat_map (λ port. flat_map (hops_from t port) (upwards 0 (chip.vcs + 1))) output_ports)
         (all_flat (λ e. tile_of e ≡ t) (hops_from t L) (from L) (upwards 0 chip.vcs))
         (all_flat (λ e. tile_of e ≡ t) (λ port. flat_map (hops_from t port) (upwards 0 (chip.vcs + 1))) (λ port. all_flat (λ e. tile_of e ≡ t) (hops_from t port) (from port) (upwards 0 (chip.vcs + 1))) output_ports)
+
     replies : (event : Port → ℕ → Event) → ((port : Port) (slot : ℕ) → tile_of (event port slot) ≡ t) → AllByRecursion (λ e. tile_of e ≡ t) (reply_events chip event)
     replies event is =
         all_flat (λ e. tile_of e ≡ t) (λ port. map (event port) (upwards 0 chip.data_vcs)) (λ port. all_map (λ e. tile_of e ≡ t) (event port) (is port) (upwards 0 chip.data_vcs)) ports

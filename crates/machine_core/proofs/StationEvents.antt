@@ -1,17 +1,15 @@
 -- Each event of a station: the fabric's step with the unit's call is the step of the chip that the station sees, and where the
 -- fabric refuses it, so does the chip.
-use Rattle.std.proofs.Common.{◌≡◌, ℕ, ◌+◌, ◌<◌, Bool, true, false, List, [], ◌∷◌, ◌++◌, Option, Some, None, length, refl, sym, ◌∙◌, ap, subst}
-use Rattle.std.specs.Prelude.{slice_get, set, is_some}
+use Rattle.std.proofs.Common.{◌≡◌, ℕ, ◌+◌, Option, Some, None, refl, ◌∙◌, ap, subst}
+use Rattle.std.specs.Prelude.{slice_get, set}
 use Rattle.mesh_gen.specs.declared.kind.Kind.{Kind}
 use Rattle.mesh_gen.specs.declared.msg.Msg.{Msg}
 use Rattle.mesh_gen.specs.declared.port.Port.{Port}
 use Rattle.mesh_gen.specs.declared.request.Request.{Request}
-use Rattle.mesh_gen.specs.Partial.{when, ◌>>=◌}
+use Rattle.mesh_gen.specs.Partial.{◌>>=◌}
 use Rattle.vc_bank.specs.Places.{Network}
 use Rattle.report_text.specs.declared.access.Access.{Access}
-use Rattle.report_text.specs.declared.event.Event.{Event}
-use Rattle.report_text.specs.declared.event.Event.TheVariants.{Tick, Core, Inject, Post, Take, Eject, Send, Hop, DataHop, DataEject}
-use Rattle.chip_model.specs.Chip.{Chip}
+use Rattle.report_text.specs.declared.event.Event.TheVariants.{Tick, Inject, Post, Take, Eject, Send, Hop, DataHop, DataEject}
 use Rattle.chip_model.specs.OrderedNetwork.{OrderedNetwork, after_inject, after_request_post, after_network_tick, after_vector_take, after_copy_hop, after_delivery}
 use Rattle.chip_model.specs.Replies.{after_send, after_data_hop, after_data_eject}
 use Rattle.chip_model.specs.Misses.{wanted}
@@ -24,8 +22,8 @@ use Rattle.fabric_core.specs.Fabric.{FabricState, MayNote, with_network, with_re
 use Rattle.fabric_core.specs.Parts.{NetworksFit}
 use Rattle.fabric_core.proofs.Entries.{inject_valid, tick_valid, post_valid, take_valid, eject_valid, hop_valid, send_valid, data_hop_valid, data_eject_valid}
 use Rattle.std.proofs.lemmas.Option.{same_Some}
-use Rattle.machine_core.specs.Stations.{StationState, IsDone, IsRefused, seen_by, settled}
-use Rattle.machine_core.proofs.SeenSteps.{Steps, set_twice, set_there, made_by, accesses_with, left_by, done_by, refused_by}
+use Rattle.machine_core.specs.Stations.{StationState, IsDone, IsRefused, settled}
+use Rattle.machine_core.proofs.SeenSteps.{Steps, set_twice, set_there, made_by, accesses_with, done_by, refused_by}
 
 -- what a step that is possible came from
 record Came {X Y : Type 0} (o : Option X) (f : X → Y) (y : Y) : Type 0 where
@@ -67,7 +65,7 @@ tick_refused b st fab none =
 inject_steps : (b : Behaviour) (st : StationState) (fab : FabricState) (kind : Kind) (line : ℕ) (network : OrderedNetwork) → wanted st.unit.node.side.misses ≡ Some (kind, line) → after_inject fab.chip fab.network st.tile kind line ≡ Some network
     → Steps b st fab (Inject st.tile) network fab.replies fab.hops (record st.unit { node = after_request_sent st.unit.node }) None
 unfolding step unit_at
-inject_steps b st fab kind line network wants was units inside = 
+inject_steps b st fab kind line network wants was units inside =
     (set (set units st.tile st.unit) st.tile (record st.unit { node = after_request_sent st.unit.node }), set_twice units st.tile st.unit (record st.unit { node = after_request_sent st.unit.node }), rw (set_there units st.tile st.unit inside, wants, was) refl)
 
 pub inject_done : (b : Behaviour) (st new : StationState) (fab moved new_fab : FabricState) (kind : Kind) (line : ℕ) → MayNote (made_by st) fab → NetworksFit fab
@@ -166,7 +164,7 @@ eject_refused b st fab none =
 send_steps : (b : Behaviour) (st : StationState) (fab : FabricState) (msg : Msg) (replies : Network Msg) → slice_get st.unit.node.out 0 ≡ Some msg → after_send fab.replies st.tile msg ≡ Some replies
     → Steps b st fab (Send st.tile) fab.network replies fab.hops (record st.unit { node = after_message_sent st.unit.node }) None
 unfolding step unit_at
-send_steps b st fab msg replies first was units inside = 
+send_steps b st fab msg replies first was units inside =
     (set (set units st.tile st.unit) st.tile (record st.unit { node = after_message_sent st.unit.node }), set_twice units st.tile st.unit (record st.unit { node = after_message_sent st.unit.node }), rw (set_there units st.tile st.unit inside, first, was) refl)
 
 pub send_done : (b : Behaviour) (st new : StationState) (fab moved new_fab : FabricState) (msg : Msg) → MayNote (made_by st) fab → NetworksFit fab

@@ -12,6 +12,7 @@ mod reporting;
 mod rest;
 mod slots;
 mod station;
+mod threads;
 
 pub use machine::{MOST_EVENTS, Machine, SPARE_EVENTS};
 use mesh_gen::Items;
@@ -19,6 +20,7 @@ pub use parts::Parts;
 pub use rest::Rest;
 pub use slots::slot_event;
 pub use station::{MOST_PRIVATE, Station};
+pub use threads::stations_go_to_threads;
 
 /// The stations of a machine, in the order of their tiles.
 pub type Stations<U> = Items<Station<U>>;

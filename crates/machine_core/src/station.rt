@@ -118,8 +118,8 @@ impl<U: Unit> Station<U> {
     fn count(&mut self, access: Option<Access>)
         requires { self.old.cores < 16 }
         ensures { self.new ≡ record self.old {
-            cores = self.old.cores + 1;
-            accesses = with_access access self.old.accesses;
+          cores = self.old.cores + 1;
+          accesses = with_access access self.old.accesses;
         } }
     {
         if let Some(access) = access {

@@ -1,5 +1,5 @@
 use Rattle.std.proofs.Common.{◌≡◌, ◌++◌}
-use Rattle.std.specs.Prelude.{take, unwrap_or, vec_capacity}
+use Rattle.std.specs.Prelude.{take, vec_capacity}
 use Rattle.machine_core.proofs.final_words.push_words.Given as goal
 
 abbrev pub invariant-loop-word : goal.invariant-loop-word

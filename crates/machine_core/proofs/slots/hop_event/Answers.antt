@@ -1,4 +1,4 @@
-use Rattle.std.proofs.Common.{◌≡◌, ◌+◌, ◌*◌, ◌-◌, ◌/◌, ◌%◌, ◌<◌, ℕ, arith, subst, sym, ap, ◌∙◌, div-add-mod', mod-lt, mul_assoc}
+use Rattle.std.proofs.Common.{◌≡◌, ◌+◌, ◌*◌, ◌-◌, ◌/◌, ◌%◌, ◌<◌, arith, sym, ap, div-add-mod', mod-lt, mul_assoc}
 use Rattle.chip_model.specs.Chip.{chip_of_mesh}
 use Rattle.machine_core.proofs.SlotPlaces.{own_hop_at, side_hop_at}
 use Rattle.machine_core.proofs.slots.hop_event.Goals as goal

@@ -1,4 +1,4 @@
-use Rattle.std.proofs.Common.{◌≡◌, ◌+◌, ◌*◌, ◌/◌, ◌%◌, ◌<◌, arith, sym, ap, ◌∙◌, div-add-mod', mod-lt}
+use Rattle.std.proofs.Common.{◌+◌, ◌*◌, ◌/◌, ◌%◌, ◌<◌, arith, sym, ap, ◌∙◌, div-add-mod', mod-lt}
 use Rattle.chip_model.specs.Chip.{chip_of_mesh}
 use Rattle.machine_core.proofs.SlotPlaces.{reply_at}
 use Rattle.machine_core.proofs.slots.reply_channel.Goals as goal

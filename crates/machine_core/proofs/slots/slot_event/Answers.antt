@@ -1,8 +1,8 @@
-use Rattle.std.proofs.Common.{◌≡◌, ℕ, suc, ◌+◌, ◌-◌, ◌*◌, ◌/◌, ◌%◌, ◌<◌, arith, sym, subst, ap, ◌∙◌, div-add-mod', mod-lt, Some, suc-mul, mul-le-mul_right}
+use Rattle.std.proofs.Common.{◌≡◌, ℕ, ◌-◌, ◌*◌, ◌/◌, ◌%◌, ◌<◌, arith, sym, subst, ap, div-add-mod', mod-lt, Some}
 use Rattle.std.specs.Prelude.{slice_get}
 use Rattle.report_text.specs.declared.event.Event.TheVariants.{Tick}
 use Rattle.chip_model.specs.Chip.{chip_of_mesh, tile_count}
-use Rattle.chip_model.specs.Schedules.{slots, slots_per_tile}
+use Rattle.chip_model.specs.Schedules.{slots}
 use Rattle.machine_core.proofs.SlotPlaces.{tick_at, tile_slot_at, quotient_below}
 use Rattle.machine_core.proofs.slots.slot_event.Goals as goal
 

@@ -1,4 +1,4 @@
-use Rattle.std.proofs.Common.{◌-◌, arith}
+use Rattle.std.proofs.Common.{arith}
 use Rattle.report_text.specs.declared.event.Event.TheVariants.{DataHop, DataEject}
 use Rattle.chip_model.specs.Chip.{chip_of_mesh}
 use Rattle.machine_core.proofs.SlotPlaces.{data_hop_slot_at, data_eject_slot_at}

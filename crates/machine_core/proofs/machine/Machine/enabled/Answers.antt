@@ -1,4 +1,4 @@
-use Rattle.std.proofs.Common.{◌≡◌, ◌∙◌, sym, arith}
+use Rattle.std.proofs.Common.{◌∙◌, arith}
 use Rattle.chip_model.specs.Chip.{chip_of}
 use Rattle.machine_core.specs.Stations.{chip_state, units_of}
 use Rattle.machine_core.proofs.MachineSteps.{at_station, no_tile, station_of_run, there_at, tiles_some, told_by, units_counted}

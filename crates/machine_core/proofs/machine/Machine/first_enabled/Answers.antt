@@ -1,4 +1,4 @@
-use Rattle.std.proofs.Common.{◌≡◌, ℕ, ◌<◌, true, false, Some, None, arith, sym, ◌∙◌, inl, inr, length, refl}
+use Rattle.std.proofs.Common.{◌≡◌, ℕ, true, false, Some, arith, sym, ◌∙◌, inl, inr, refl}
 use Rattle.std.specs.Prelude.{slice_get}
 use Rattle.std.proofs.lemmas.Bool.{true≢false}
 use Rattle.std.proofs.lemmas.Option.{slice_get_within}
@@ -36,6 +36,6 @@ returns-clause-none g c =
     let over : finished m.state ≡ true = elim c.progresses.ensures.moves [
       | inl ends ↦ ends
       | inr some ↦ absurd (true≢false (sym some.possible
-      ∙ not_contained (enabled g.U.Unit.behaviour (chip_of m.document) m.state) (slots (chip_of m.document)) some.event all (c.progresses.ensures.slots some.event some.possible)))
+          ∙ not_contained (enabled g.U.Unit.behaviour (chip_of m.document) m.state) (slots (chip_of m.document)) some.event all (c.progresses.ensures.slots some.event some.possible)))
     ] in
     (λ none. over, λ ends. refl)

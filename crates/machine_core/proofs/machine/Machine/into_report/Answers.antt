@@ -1,4 +1,4 @@
-use Rattle.std.proofs.Common.{◌≡◌, List, ℕ, [], true, length, sym, subst, ap, ◌∙◌, arith, if◌then◌else◌}
+use Rattle.std.proofs.Common.{◌≡◌, List, [], length, sym, subst, ap, ◌∙◌, arith, if◌then◌else◌}
 use Rattle.std.specs.Prelude.{map}
 use Rattle.std.specs.List.{flat_map}
 use Rattle.order_tracker.specs.Order.{upwards}
@@ -17,8 +17,14 @@ pub steps_done-requires-after_bounds : goal.steps_done-requires-after_bounds
 steps_done-requires-after_bounds g c κs lives =
     let holds = rw (← c.self.view_is) at (c.laws.ensures.holds c.kind_laws.ensures) in
     let stations = c.self.inside.stations.items in
-    omega (arith, ap (λ (list : List StationState). length list) c.deref-2.ensures.value, units_counted stations, holds.protocol.units,
-    ap (λ (x : Doc). tile_count (chip_of x)) c.into_parts-document.ensures.document, c.into_parts-document.ensures.room)
+    omega (
+      arith,
+      ap (λ (list : List StationState). length list) c.deref-2.ensures.value,
+      units_counted stations,
+      holds.protocol.units,
+      ap (λ (x : Doc). tile_count (chip_of x)) c.into_parts-document.ensures.document,
+      c.into_parts-document.ensures.room,
+    )
 
 pub returns : goal.returns
 returns g c =

@@ -1,8 +1,5 @@
-use Rattle.std.proofs.Common.{◌≡◌, ◌+◌, ◌*◌, sym, subst, ap, ◌∙◌, arith}
-use Rattle.doc_text.specs.Doc.{Doc, doc_of}
-use Rattle.chip_model.specs.Chip.{chip_of}
-use Rattle.machine_core.specs.Stations.{StationState, chip_state, units_of}
-use Rattle.machine_core.specs.Machine.{AreParts}
+use Rattle.std.proofs.Common.{arith}
+use Rattle.doc_text.specs.Doc.{doc_of}
 use Rattle.machine_core.proofs.Openings.{document_within, parts_opened, state_opened}
 use Rattle.machine_core.proofs.machine.Machine.open.Goals as goal
 

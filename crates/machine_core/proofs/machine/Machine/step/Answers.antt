@@ -1,9 +1,9 @@
-use Rattle.std.proofs.Common.{◌≡◌, ◌∙◌, sym, subst, ap, arith}
+use Rattle.std.proofs.Common.{◌∙◌, sym, subst, arith}
 use Rattle.std.specs.Prelude.{set}
 use Rattle.chip_model.specs.Chip.{chip_of}
 use Rattle.fabric_core.specs.Fabric.{FabricState}
 use Rattle.machine_core.specs.Machine.{AreParts}
-use Rattle.machine_core.specs.Stations.{StationState, chip_state, units_of}
+use Rattle.machine_core.specs.Stations.{chip_state, units_of}
 use Rattle.machine_core.proofs.MachineSteps.{at_station, by_result, err_map, machine_after, machine_refused, no_tile, not_after, ok_map, parts_after, set_kept, station_of_run, there_at, tiles_some, units_counted}
 use Rattle.machine_core.proofs.machine.Machine.step.Goals as goal
 

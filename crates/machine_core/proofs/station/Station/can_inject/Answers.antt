@@ -1,5 +1,4 @@
-use Rattle.std.proofs.Common.{◌≡◌, ◌∙◌, sym, ap}
-use Rattle.std.specs.Prelude.{slice_get}
+use Rattle.std.proofs.Common.{◌∙◌, sym, ap}
 use Rattle.chip_model.specs.Misses.{wanted}
 use Rattle.chip_model.specs.Node.{Node}
 use Rattle.machine_core.specs.Stations.{StationState}

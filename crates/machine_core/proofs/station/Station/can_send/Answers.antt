@@ -1,6 +1,5 @@
-use Rattle.std.proofs.Common.{◌≡◌, ◌∙◌, sym, ap}
+use Rattle.std.proofs.Common.{◌∙◌, sym, ap}
 use Rattle.std.specs.Prelude.{slice_get}
-use Rattle.chip_model.specs.Misses.{wanted}
 use Rattle.chip_model.specs.Node.{Node}
 use Rattle.machine_core.specs.Stations.{StationState}
 use Rattle.machine_core.proofs.PossibleEvents.{send_told, empty_told}

@@ -1,4 +1,4 @@
-use Rattle.std.proofs.Common.{◌≡◌, sym}
+use Rattle.std.proofs.Common.{sym}
 use Rattle.forward_list.specs.declared.forward_list.TheConstants.{LIST_PLACES}
 use Rattle.forward_list.specs.declared.out_queue.TheConstants.{QUEUE_PLACES}
 use Rattle.net_iface.proofs.Steps.{on_err}

@@ -1,4 +1,4 @@
-use Rattle.std.proofs.Common.{◌≡◌, arith, subst}
+use Rattle.std.proofs.Common.{arith}
 use Rattle.forward_list.specs.declared.forward_list.TheConstants.{LIST_PLACES}
 use Rattle.forward_list.specs.declared.out_queue.TheConstants.{QUEUE_PLACES}
 use Rattle.machine_core.proofs.MeetsCalls.{meets_calls}

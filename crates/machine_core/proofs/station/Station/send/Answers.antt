@@ -1,13 +1,12 @@
-use Rattle.std.proofs.Common.{◌≡◌, ◌∙◌, sym, subst, ap}
+use Rattle.std.proofs.Common.{◌∙◌, sym, ap}
 use Rattle.forward_list.specs.declared.forward_list.TheConstants.{LIST_PLACES}
 use Rattle.forward_list.specs.declared.out_queue.TheConstants.{QUEUE_PLACES}
 use Rattle.net_iface.proofs.Steps.{on_err}
-use Rattle.chip_model.specs.Misses.{wanted}
 use Rattle.chip_model.specs.Node.{Node}
 use Rattle.chip_model.specs.Units.{UnitState}
 use Rattle.std.specs.Prelude.{slice_get}
 use Rattle.machine_core.specs.Stations.{StationState, settled}
-use Rattle.machine_core.proofs.MeetsCalls.{may_note, room_left, delivery_meets, arrival_meets}
+use Rattle.machine_core.proofs.MeetsCalls.{may_note, room_left}
 use Rattle.machine_core.proofs.StationEvents.{send_done, send_refused, send_room, send_empty}
 use Rattle.machine_core.proofs.station.Station.send.Goals as goal
 

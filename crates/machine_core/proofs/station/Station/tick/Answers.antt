@@ -1,10 +1,9 @@
-use Rattle.std.proofs.Common.{◌≡◌, sym, subst}
+use Rattle.std.proofs.Common.{sym, subst}
 use Rattle.forward_list.specs.declared.forward_list.TheConstants.{LIST_PLACES}
 use Rattle.forward_list.specs.declared.out_queue.TheConstants.{QUEUE_PLACES}
 use Rattle.net_iface.proofs.Steps.{on_err}
 use Rattle.fabric_core.specs.declared.made.Made.{Made}
 use Rattle.fabric_core.specs.Fabric.{MayNote}
-use Rattle.machine_core.proofs.SeenSteps.{made_by}
 use Rattle.machine_core.proofs.StationEvents.{tick_done, tick_refused, tick_room}
 use Rattle.machine_core.proofs.MeetsCalls.{may_note, room_left}
 use Rattle.machine_core.proofs.station.Station.tick.Goals as goal
