@@ -25,7 +25,7 @@ use Rattle.supply_laws.specs.Reachable.{StateHolds}
 use Rattle.supply_laws.proofs.NotedStates.{noted_state}
 use Rattle.supply_laws.proofs.ReachedStates.{IsKept, noted_after}
 use Rattle.value_laws.specs.Sequences.{AllPairs, Differs, AreSucceeding}
-use Rattle.value_laws.specs.Numbers.{StoresRise, AreInTurn}
+use Rattle.value_laws.specs.Turns.{StoresRise, AreInTurn}
 use Rattle.value_laws.proofs.SettledSteps.{OrdersNothing}
 use Rattle.value_laws.proofs.StayedValues.{same_values}
 use Rattle.value_laws.proofs.QuietValues.{no_change, node_kept_values}

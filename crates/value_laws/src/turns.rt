@@ -10,7 +10,7 @@ ghost use Rattle.chip_model.specs.Runs.{run};
 ghost use Rattle.chip_model.specs.BehaviourLaws.{KeepsLaws};
 ghost use Rattle.chip_laws.specs.DocFits.{DocFits};
 ghost use Rattle.supply_laws.specs.Reachable.{StateHolds};
-ghost use Rattle.value_laws.specs.Numbers.{AreInTurn};
+ghost use Rattle.value_laws.specs.Turns.{AreInTurn};
 
 /// In which sequence a tile performs its accesses and writes its buffered stores, whatever its core
 /// is. At run time it does nothing.

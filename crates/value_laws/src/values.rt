@@ -10,7 +10,7 @@ ghost use Rattle.chip_model.specs.BehaviourLaws.{KeepsLaws};
 ghost use Rattle.chip_model.specs.Values.{ValuesHold};
 ghost use Rattle.chip_laws.specs.DocFits.{DocFits};
 ghost use Rattle.supply_laws.specs.Reachable.{StateHolds};
-ghost use Rattle.value_laws.specs.Numbers.{AreInTurn};
+ghost use Rattle.value_laws.specs.Turns.{AreInTurn};
 ghost use Rattle.value_laws.specs.Reads.{AccessesHold};
 
 use crate::core_run_laws;
