@@ -241,7 +241,7 @@ one_more_tick count a b c (Err e) inside before sizes done none kept few =
 
 -- ---- a whole window
 -- the tiles of a set in rising order
-rising_tiles : (n set : ℕ) → expansion n 0 set ≡ filter (has_tile set) (upwards 0 n)
+pub rising_tiles : (n set : ℕ) → expansion n 0 set ≡ filter (has_tile set) (upwards 0 n)
 rising_tiles n set =
     let first : 0 % n ≡ 0 = zero-mod n in
     let count : n - 0 ≡ n = omega arith in

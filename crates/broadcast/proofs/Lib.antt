@@ -2,3 +2,9 @@ pub mod Sweeping
 pub mod Broadcasting
 pub mod Delivering
 pub mod Settling
+pub mod BroadcastStages
+pub mod MadeRequests
+pub mod PostedRequests
+pub mod PassedTicks
+pub mod RequestsMoved
+pub mod WholeOrders

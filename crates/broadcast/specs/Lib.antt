@@ -2,3 +2,4 @@ pub mod Sweeps
 pub mod Broadcasts
 pub mod Delivered
 pub mod Settled
+pub mod Whole

@@ -7,7 +7,9 @@ ghost use Rattle.chip_model.specs.Chip.{chip_of, chip_of_mesh};
 ghost use Rattle.chip_model.specs.Delivery.{DeliversPosts};
 ghost use Rattle.net_iface.specs.OneOrder.{IsOneOrder};
 ghost use Rattle.broadcast.specs.Settled.{broadcast_network};
+ghost use Rattle.broadcast.specs.Whole.{IsWhole};
 
+use crate::laws::broadcast_laws;
 use crate::passes::settle;
 use crate::window::pass_window;
 use doc_text::Document;
@@ -33,6 +35,8 @@ pub fn broadcast_posts(alloc: Global, document: &Document) -> Result<OrderedNet,
     ensures network { IfOk result (λ net. net.network ≡ broadcast_network (doc_of document.now)) }
     ensures one_order { IfOk result (λ net.
         IsOneOrder (chip_of (doc_of document.now)) net.network) }
+    // Every post is ordered, and every tile has delivered the whole order.
+    ensures whole { IfOk result (λ net. IsWhole (doc_of document.now) net.network) }
 {
     let mesh = &document.mesh;
     let windows = document.windows();
@@ -44,7 +48,8 @@ pub fn broadcast_posts(alloc: Global, document: &Document) -> Result<OrderedNet,
         pass_window(&mut net, set);
         settle(&mut net);
     }
-    // What this tells is true of every ordered network.
+    // What these tell is true of every ordered network, and of every broadcast.
     net.tiles();
+    broadcast_laws();
     Ok(net)
 }

@@ -5,6 +5,7 @@ use Rattle.chip_model.specs.Chip.{chip_of}
 use Rattle.chip_model.specs.Delivery.{DeliversPosts, delivered_lists}
 use Rattle.net_iface.specs.OneOrder.{IsOneOrder}
 use Rattle.broadcast.specs.Settled.{broadcast_network}
+use Rattle.broadcast.specs.Whole.{IsWhole}
 use Rattle.commands.specs.Entries.{rest_text}
 
 -- what stands before a tile's list
@@ -28,8 +29,10 @@ deliveries_text lists = lines_from 0 lists
 abbrev pub deliver_text : Doc → List ℕ
 deliver_text doc = deliveries_text (delivered_lists (broadcast_network doc))
 
--- it is the text of `deliver`; that network is one of the definition, and its tiles deliver prefixes of one order
+-- it is the text of `deliver`; that network is one of the definition, its tiles deliver prefixes of one order, and each of
+-- them all of it: the list of each tile is that of `order`
 pub record IsDelivered (doc : Doc) (text : List ℕ) : Type 0 where
   pub text_is : text ≡ deliver_text doc
   pub delivers : DeliversPosts doc (broadcast_network doc)
   pub one_order : IsOneOrder (chip_of doc) (broadcast_network doc)
+  pub whole : IsWhole doc (broadcast_network doc)

@@ -26,7 +26,7 @@ use Rattle.chip_laws.proofs.OrderFrames.{HoldsAt, holds_at}
 use Rattle.chip_laws.proofs.OrderLists.{get_take}
 use Rattle.supply_laws.proofs.GetPlaces.{get_drop}
 use Rattle.supply_laws.proofs.LastPlaces.{count_none}
-use Rattle.progress_laws.proofs.ListSums.{kept_passes, sum_some, sum_none, count_some}
+use Rattle.flow_laws.proofs.ListSums.{kept_passes, sum_some, sum_none, count_some}
 use Rattle.progress_laws.proofs.QuietStates.{IsQuiet, none_to_come, no_data, no_waiters}
 
 -- ---- who waits in the list of a demand stands behind it in the order

@@ -13,8 +13,8 @@ use Rattle.chip_model.specs.Events.{step, unit_at}
 use Rattle.chip_model.specs.Runs.{enabled}
 use Rattle.window_core.proofs.Steps.{there_too}
 use Rattle.net_iface.proofs.Places.{item_at}
-use Rattle.progress_laws.specs.NetworkMoves.{DeliveryMoves, NetworkMoves, takes, hops, ejects, delivers, ticks, posts}
-use Rattle.progress_laws.specs.MessageMoves.{MessageMoves, message_hops, message_ejects}
+use Rattle.flow_laws.specs.NetworkMoves.{DeliveryMoves, NetworkMoves, takes, hops, ejects, delivers, ticks, posts}
+use Rattle.flow_laws.specs.MessageMoves.{MessageMoves, message_hops, message_ejects}
 use Rattle.progress_laws.specs.Possible.{SomeIsEnabled}
 
 tick_enabled : (b : Behaviour) (chip : Chip) (s : ChipState) → is_some (after_network_tick chip s.network) ≡ true → enabled b chip s Tick ≡ true

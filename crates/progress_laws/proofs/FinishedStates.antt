@@ -28,11 +28,11 @@ use Rattle.chip_laws.specs.DocFits.{DocFits}
 use Rattle.chip_laws.proofs.RequestsInside.{tile_of}
 use Rattle.chip_laws.proofs.OrderedTiles.{tiles_some}
 use Rattle.supply_laws.proofs.GetPlaces.{get_drop}
-use Rattle.progress_laws.specs.NetworkMoves.{AllDelivered, NetworkRests}
-use Rattle.progress_laws.specs.MessageMoves.{NoMessages}
-use Rattle.progress_laws.proofs.ListSums.{passes_at}
-use Rattle.progress_laws.proofs.OwedRequests.{ordered_le}
-use Rattle.progress_laws.proofs.NetworkMoves.{AllOrdered, rests}
+use Rattle.flow_laws.specs.NetworkMoves.{AllDelivered, NetworkRests}
+use Rattle.flow_laws.specs.MessageMoves.{NoMessages}
+use Rattle.flow_laws.proofs.ListSums.{passes_at}
+use Rattle.flow_laws.proofs.OwedRequests.{ordered_le}
+use Rattle.flow_laws.proofs.NetworkMoves.{AllOrdered, rests}
 
 -- ---- what it is to have finished, part by part
 all_read : {X : Type 0} (p : X → Bool) (xs : List X) (d : X) → list_all p xs ≡ true → p d ≡ true → (k : ℕ) → p (get_or xs k d) ≡ true

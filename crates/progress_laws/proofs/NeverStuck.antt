@@ -35,14 +35,14 @@ use Rattle.chip_laws.specs.DocFits.{DocFits}
 use Rattle.chip_laws.specs.Meetings.{UnitsFit}
 use Rattle.chip_laws.proofs.OrderFrames.{holds_at}
 use Rattle.chip_laws.proofs.RequestsInside.{tile_of_unit}
-use Rattle.progress_laws.specs.NetworkMoves.{NetworkMoves, NetworkRests}
-use Rattle.progress_laws.specs.MessageMoves.{MessageMoves, NoMessages}
+use Rattle.flow_laws.specs.NetworkMoves.{NetworkMoves, NetworkRests}
+use Rattle.flow_laws.specs.MessageMoves.{MessageMoves, NoMessages}
 use Rattle.progress_laws.specs.Possible.{SomeIsEnabled}
-use Rattle.progress_laws.proofs.Searches.{Passes, NonePasses, search_list}
-use Rattle.progress_laws.proofs.ListSums.{all_pass}
-use Rattle.progress_laws.proofs.RouterChannels.{bank_there, normal_there}
-use Rattle.progress_laws.proofs.NetworkMoves.{network_moves}
-use Rattle.progress_laws.proofs.MessageMoves.{PortIs, free, full, port_is, reply_port_is, message_moves}
+use Rattle.flow_laws.proofs.Searches.{Passes, NonePasses, search_list}
+use Rattle.flow_laws.proofs.ListSums.{all_pass}
+use Rattle.flow_laws.proofs.RouterChannels.{bank_there, normal_there}
+use Rattle.flow_laws.proofs.NetworkMoves.{network_moves}
+use Rattle.flow_laws.proofs.MessageMoves.{PortIs, free, full, port_is, reply_port_is, message_moves}
 use Rattle.progress_laws.proofs.EnabledEvents.{network_enabled, message_enabled}
 use Rattle.progress_laws.proofs.QuietStates.{IsQuiet, delivered_all}
 use Rattle.progress_laws.proofs.IdleUnits.{waits_for_nothing}

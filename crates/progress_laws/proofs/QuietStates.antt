@@ -31,9 +31,9 @@ use Rattle.chip_laws.proofs.RequestsInside.{tile_of}
 use Rattle.chip_laws.proofs.OrderedTiles.{source_inside}
 use Rattle.supply_laws.proofs.WordsDue.{due}
 use Rattle.supply_laws.proofs.ReachedWords.{reached_none}
-use Rattle.progress_laws.specs.NetworkMoves.{NetworkRests}
-use Rattle.progress_laws.specs.MessageMoves.{NoMessages}
-use Rattle.progress_laws.proofs.ListSums.{sum_none, count_none, fold_keeps}
+use Rattle.flow_laws.specs.NetworkMoves.{NetworkRests}
+use Rattle.flow_laws.specs.MessageMoves.{NoMessages}
+use Rattle.flow_laws.proofs.ListSums.{sum_none, count_none, fold_keeps}
 
 pub record IsQuiet (d : Doc) (s : ChipState) : Type 0 where
   pub doc : DocFits d

@@ -36,7 +36,7 @@ use Rattle.net_iface.proofs.Steps.{after_network_tick-none, after_request_post-n
 use Rattle.net_iface.proofs.Steps.{after_delivery-unknown, after_delivery-absent}
 use Rattle.chip_laws.specs.DocFits.{DocFits}
 use Rattle.chip_laws.proofs.OrderFrames.{holds_at}
-use Rattle.progress_laws.specs.NetworkMoves.{NetworkRests}
+use Rattle.flow_laws.specs.NetworkMoves.{NetworkRests}
 use Rattle.progress_laws.proofs.FinishedStates.{IsDone, IsOver, finished_over}
 
 -- ---- no tick, no post and no take

@@ -1,3 +1,1 @@
-pub mod NetworkMoves
-pub mod MessageMoves
 pub mod Possible

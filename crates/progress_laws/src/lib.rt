@@ -4,4 +4,4 @@
 
 mod laws;
 
-pub use laws::{chip_progress_laws, message_progress_laws, request_progress_laws};
+pub use laws::chip_progress_laws;

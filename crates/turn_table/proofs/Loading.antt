@@ -24,9 +24,9 @@ module _ {V : Type 0} (entries : V → List ℕ) (names : ℕ → ℕ) (opening 
         keeps,
         tt,
         rule_after entries names opening seats state rule id note new carried keeps seen rule.made rule.held rule.value at
-        (notes_seen entries names opening seats state rule note (note.loads + 1) seen None ((seen % 2 == 1) || note.refused) right
-        (λ due. dite (dec_le 1 seen) (λ some_seen. inl (omega arith))
+            (notes_seen entries names opening seats state rule note (note.loads + 1) seen None ((seen % 2 == 1) || note.refused) right
+            (λ due. dite (dec_le 1 seen) (λ some_seen. inl (omega arith))
             (λ none_seen. let same : bit new.refused ≡ bit note.refused = ap bit (refused_after_zero seen note.refused (omega arith)) in let mine = total_of_views_at signs_of_use state.views id note at in inl (omega arith))))
-        rule.home (λ j view _ there. rule.notes j view there),
+            rule.home (λ j view _ there. rule.notes j view there),
         λ told same. ap (λ (n : Note). (note_after_load n seen ∷ [], carried)) (same_note note told same),
       )

@@ -3,3 +3,4 @@ pub mod CoreRuns
 pub mod Reads
 pub mod Deliveries
 pub mod Turns
+pub mod Numbers

@@ -19,8 +19,8 @@ use Rattle.chip_model.specs.Copies.{channels_of}
 use Rattle.chip_model.specs.Replies.{next_channel, after_data_hop, after_data_eject}
 use Rattle.chip_model.specs.NetworkShape.{HasChannels, IsOnRoute}
 use Rattle.net_iface.proofs.Places.{item_at}
-use Rattle.progress_laws.specs.MessageMoves.{MessageMoves, message_hops, message_ejects, NoMessages, AreForTiles}
-use Rattle.progress_laws.proofs.RouterChannels.{port_of, port_below, bank_there, normal_there, stands_there}
+use Rattle.flow_laws.specs.MessageMoves.{MessageMoves, message_hops, message_ejects, NoMessages, AreForTiles}
+use Rattle.flow_laws.proofs.RouterChannels.{port_of, port_below, bank_there, normal_there, stands_there}
 
 -- ---- the first slot of a port
 pub reply_slots : (P : Type 0) (vcs : ℕ) (port : Port) → length (slots_at (empty_channels {P = P} vcs false) (port_number port)) ≡ vcs

@@ -27,10 +27,10 @@ use Rattle.net_iface.proofs.Places.{HasItem, item_at}
 use Rattle.window_core.proofs.Steps.{there_too}
 use Rattle.router_xy.proofs.CopySteps.{serve_found}
 use Rattle.net_iface.proofs.Steps.{is_some-after_copy_hop, is_some-after_delivery}
-use Rattle.progress_laws.specs.NetworkMoves.{DeliveryMoves, ejects}
-use Rattle.progress_laws.specs.NetworkMoves.{hops}
-use Rattle.progress_laws.proofs.OwedRequests.{StandsAt, stands_at, still_owed, owed_no_more, AllTaken, expects_it}
-use Rattle.progress_laws.proofs.RouterChannels.{leads_to_tile, port_of, port_below, ReservedIs, free, held, reserved_is, comes_in}
+use Rattle.flow_laws.specs.NetworkMoves.{DeliveryMoves, ejects}
+use Rattle.flow_laws.specs.NetworkMoves.{hops}
+use Rattle.flow_laws.proofs.OwedRequests.{StandsAt, stands_at, still_owed, owed_no_more, AllTaken, expects_it}
+use Rattle.flow_laws.proofs.RouterChannels.{leads_to_tile, port_of, port_below, ReservedIs, free, held, reserved_is, comes_in}
 
 -- ---- where a hop is possible
 pub can_hop : (chip : Chip) (net : OrderedNetwork) (r : ℕ) (port : Port) (slot : ℕ) (out : Port) (copy : NetCopy) (n : ℕ) (expected : Option Name) → expected ≡ expected_at_next_hop chip net r out

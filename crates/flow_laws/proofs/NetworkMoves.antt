@@ -20,14 +20,14 @@ use Rattle.chip_model.specs.NetworkFits.{NetworkFits}
 use Rattle.net_iface.proofs.Named.{times_named-made}
 use Rattle.net_iface.proofs.Places.{item_at}
 use Rattle.net_iface.proofs.Steps.{is_some-after_network_tick, is_some-after_request_post, is_some-after_vector_take}
-use Rattle.progress_laws.specs.NetworkMoves.{DeliveryMoves, NetworkMoves, AllDelivered, NetworkRests, takes, delivers, ticks, posts}
-use Rattle.progress_laws.specs.NetworkMoves.{takes, ticks}
-use Rattle.progress_laws.proofs.Searches.{Passes, NonePasses, search_list, Least, least_in}
-use Rattle.progress_laws.proofs.OwedRequests.{AllTaken, times_in_front}
-use Rattle.progress_laws.proofs.OwedRequests.{ordered_le}
-use Rattle.progress_laws.proofs.RouterChannels.{leads_to_tile}
-use Rattle.progress_laws.proofs.LeastPlace.{own_name, undelivered_moves}
-use Rattle.progress_laws.proofs.LeastPlace.{interface_at}
+use Rattle.flow_laws.specs.NetworkMoves.{DeliveryMoves, NetworkMoves, AllDelivered, NetworkRests, takes, delivers, ticks, posts}
+use Rattle.flow_laws.specs.NetworkMoves.{takes, ticks}
+use Rattle.flow_laws.proofs.Searches.{Passes, NonePasses, search_list, Least, least_in}
+use Rattle.flow_laws.proofs.OwedRequests.{AllTaken, times_in_front}
+use Rattle.flow_laws.proofs.OwedRequests.{ordered_le}
+use Rattle.flow_laws.proofs.RouterChannels.{leads_to_tile}
+use Rattle.flow_laws.proofs.LeastPlace.{own_name, undelivered_moves}
+use Rattle.flow_laws.proofs.LeastPlace.{interface_at}
 
 -- ---- a vector that was not taken
 can_take : (w : Windows) (t count : ℕ) → slice_get w.taken t ≡ Some count → count < length w.closed → is_some (after_take w t) ≡ true

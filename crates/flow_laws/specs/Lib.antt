@@ -1,0 +1,2 @@
+pub mod NetworkMoves
+pub mod MessageMoves

@@ -1,5 +1,0 @@
-use Rattle.progress_laws.proofs.MessageMoves.{message_moves}
-use Rattle.progress_laws.proofs.laws.message_progress_laws.Goals as goal
-
-pub returns : goal.returns
-returns c = record { moves = message_moves }
