@@ -54,5 +54,4 @@ pub mod InOrderHits
 pub mod UnitNumbers
 pub mod TurnsKept
 pub mod ReachedTurns
-pub mod KeptValues
 pub mod ReachedValues

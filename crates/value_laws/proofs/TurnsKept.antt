@@ -24,7 +24,7 @@ use Rattle.chip_laws.proofs.Each.{each_from}
 use Rattle.chip_laws.proofs.InOrderEvents.{UnitIs, unit_is}
 use Rattle.chip_laws.proofs.UnitFrames.{each_unit, same_units}
 use Rattle.value_laws.specs.Sequences.{AllPairs, Differs, Succeeds, AreSucceeding}
-use Rattle.value_laws.specs.Turns.{NumbersHold, AreInTurn}
+use Rattle.value_laws.specs.Numbers.{NumbersHold, AreInTurn}
 use Rattle.value_laws.proofs.Sequences.{pairs_push}
 use Rattle.value_laws.proofs.UnitNumbers.{numbers_same, numbers_buffers, numbers_of, succeeds_all, differs_all, numbers_away}
 

@@ -10,7 +10,7 @@ use Rattle.chip_model.specs.Witness.{is_write}
 use Rattle.chip_laws.proofs.Each.{each_at, each_from, each_append}
 use Rattle.chip_laws.proofs.Options.{none_some}
 use Rattle.value_laws.specs.Sequences.{Differs, Succeeds}
-use Rattle.value_laws.specs.Turns.{StoresRise, IsApart, NumbersHold}
+use Rattle.value_laws.specs.Numbers.{StoresRise, IsApart, NumbersHold}
 use Rattle.value_laws.proofs.Sequences.{before_time, follows_by}
 
 -- ---- stores

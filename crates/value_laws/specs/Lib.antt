@@ -2,5 +2,4 @@ pub mod Sequences
 pub mod CoreRuns
 pub mod Reads
 pub mod Deliveries
-pub mod Turns
 pub mod Numbers

@@ -5,7 +5,6 @@
 mod consistency;
 mod cores;
 mod laws;
-mod numbers;
 mod orders;
 mod turns;
 mod values;
@@ -13,7 +12,6 @@ mod values;
 pub use consistency::consistency_laws;
 pub use cores::core_run_laws;
 pub use laws::{sequence_laws, value_laws};
-pub use numbers::number_laws;
 pub use orders::delivery_order_laws;
 pub use turns::access_turn_laws;
 pub use values::{kept_value_laws, reached_access_laws};

@@ -1,5 +1,4 @@
-ghost use Rattle.std.specs.Prelude.{◌≡◌, ◌≢◌, ℕ, List, Some, slice_get};
-ghost use Rattle.report_text.specs.declared.access.Access.{Access};
+ghost use Rattle.std.specs.Prelude.{◌≡◌, List, Some};
 ghost use Rattle.report_text.specs.declared.event.Event.{Event};
 ghost use Rattle.doc_text.specs.Doc.{Doc};
 ghost use Rattle.chip_model.specs.Chip.{chip_of};
@@ -11,26 +10,24 @@ ghost use Rattle.chip_model.specs.BehaviourLaws.{KeepsLaws};
 ghost use Rattle.chip_model.specs.Values.{ValuesHold};
 ghost use Rattle.chip_laws.specs.DocFits.{DocFits};
 ghost use Rattle.supply_laws.specs.Reachable.{StateHolds};
-ghost use Rattle.value_laws.specs.Sequences.{AreSucceeding};
+ghost use Rattle.value_laws.specs.Numbers.{AreInTurn};
 ghost use Rattle.value_laws.specs.Reads.{AccessesHold};
 
-use crate::{access_turn_laws, core_run_laws};
+use crate::core_run_laws;
 
 /// The law of line values: before any event, after each event, and so in every state that a chip
 /// reaches, whatever its cores are. At run time it does nothing.
 pub fn kept_value_laws()
     ensures opened { (d : Doc) → ValuesHold d (opening d) }
-
-    // An event keeps it where no access comes before a write that its tile performed earlier. So it
-    // is in every run.
     ensures kept { (b : Behaviour) (laws : KeepsLaws b) (d : Doc) (s new : ChipState)
-        (event : Event) → DocFits d → StateHolds b laws d s → AreSucceeding new.accesses
-        → ValuesHold d s → step b (chip_of d) s event ≡ Some new → ValuesHold d new }
+        (event : Event) → DocFits d → StateHolds b laws d s → AreInTurn s → ValuesHold d s
+        → step b (chip_of d) s event ≡ Some new → ValuesHold d new }
     ensures reached { (b : Behaviour) (laws : KeepsLaws b) (d : Doc) (events : List Event)
         (s : ChipState) → DocFits d → run b (chip_of d) (opening d) events ≡ Some s
         → ValuesHold d s }
 {
     chip_laws::chip_network_laws();
+    chip_laws::core_order_laws();
     supply_laws::reachable_laws();
 }
 
@@ -44,14 +41,7 @@ pub fn reached_access_laws()
         → step in_order (chip_of d) s event ≡ Some new → AccessesHold d new }
     ensures reached { (d : Doc) (events : List Event) (s : ChipState) → DocFits d
         → run in_order (chip_of d) (opening d) events ≡ Some s → AccessesHold d s }
-
-    // No two accesses are of one instruction.
-    ensures numbers { (d : Doc) (events : List Event) (s : ChipState) → DocFits d
-        → run in_order (chip_of d) (opening d) events ≡ Some s
-        → (i j : ℕ) (a b : Access) → i ≢ j → slice_get s.accesses i ≡ Some a
-        → slice_get s.accesses j ≡ Some b → a.tile ≡ b.tile → a.number ≢ b.number }
 {
-    access_turn_laws();
     core_run_laws();
     chip_laws::behaviour_laws();
     chip_laws::chip_network_laws();

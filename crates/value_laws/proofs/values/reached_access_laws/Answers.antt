@@ -1,6 +1,4 @@
 use Rattle.chip_model.specs.ChipState.{opening}
-use Rattle.chip_model.specs.Units.{in_order}
-use Rattle.value_laws.proofs.ReachedTurns.{numbers_apart}
 use Rattle.value_laws.proofs.ReachedValues.{state_opened, state_kept, state_reached, accesses_hold, of_accesses}
 use Rattle.value_laws.proofs.values.reached_access_laws.Goals as goal
 
@@ -22,5 +20,4 @@ returns c =
           (state_reached kept turns.stepped messages laws d events (opening d) s (requests d fits)
           (state_opened c.reachable_laws.ensures.opened turns.opened laws d fits) e)
           (runs.reached d events s fits e);
-      numbers = λ d events s fits e. numbers_apart s (c.access_turn_laws.ensures.reached in_order laws d events s fits e);
     }
