@@ -34,8 +34,8 @@ pub fn kept_value_laws()
     supply_laws::reachable_laws();
 }
 
-/// All that the accesses of a chip of in-order cores rest on, in every state that it reaches. At run
-/// time it does nothing.
+/// All that the accesses of a chip of in-order cores rest on, in every state that it reaches. At
+/// run time it does nothing.
 pub fn reached_access_laws()
     // It holds before any event, and each event keeps it.
     ensures opened { (d : Doc) → DocFits d → AccessesHold d (opening d) }
