@@ -54,4 +54,5 @@ pub mod InOrderHits
 pub mod UnitNumbers
 pub mod TurnsKept
 pub mod ReachedTurns
+pub mod KeptValues
 pub mod ReachedValues

@@ -28,7 +28,7 @@ use Rattle.value_laws.proofs.Executions.{cores_rising}
 use Rattle.value_laws.proofs.QuietValues.{no_change}
 use Rattle.value_laws.proofs.OpenedValues.{values_opened}
 use Rattle.value_laws.proofs.EventReads.{quiet, reads_after}
-use Rattle.value_laws.proofs.ReachedTurns.{values_kept, orders_noted, values_noted}
+use Rattle.value_laws.proofs.KeptValues.{values_kept, orders_noted, values_noted}
 use Rattle.value_laws.proofs.Sequences.{all_succeeding}
 use Rattle.value_laws.proofs.InOrderHits.{in_order_tries}
 
@@ -52,7 +52,7 @@ state_kept kept in_turn messages laws d s new event fits is e =
     record {
       state = left;
       cores = cores;
-      values = values_kept kept messages in_order laws d s new event fits is.state (all_succeeding s.accesses rising) (all_succeeding new.accesses rises)
+      values = values_kept kept messages in_order laws d s new event fits is.state (all_succeeding new.accesses rises)
           is.values e;
       reads = reads_after messages in_order laws d s new fits is.state left rising rises is.values is.reads
           (in_order_tries laws d s new fits.doc is.state.protocol is.state.fit) event (event_does in_order (chip_of d) s new event e);

@@ -31,7 +31,5 @@ pub fn access_turn_laws()
         → (i j : ℕ) (a b : Access) → i ≢ j → slice_get s.accesses i ≡ Some a
         → slice_get s.accesses j ≡ Some b → a.tile ≡ b.tile → a.number ≢ b.number }
 {
-    chip_laws::chip_network_laws();
-    chip_laws::core_order_laws();
     supply_laws::reachable_laws();
 }

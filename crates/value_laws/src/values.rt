@@ -10,7 +10,7 @@ ghost use Rattle.chip_model.specs.BehaviourLaws.{KeepsLaws};
 ghost use Rattle.chip_model.specs.Values.{ValuesHold};
 ghost use Rattle.chip_laws.specs.DocFits.{DocFits};
 ghost use Rattle.supply_laws.specs.Reachable.{StateHolds};
-ghost use Rattle.value_laws.specs.Numbers.{AreInTurn};
+ghost use Rattle.value_laws.specs.Sequences.{AreSucceeding};
 ghost use Rattle.value_laws.specs.Reads.{AccessesHold};
 
 use crate::core_run_laws;
@@ -19,20 +19,23 @@ use crate::core_run_laws;
 /// reaches, whatever its cores are. At run time it does nothing.
 pub fn kept_value_laws()
     ensures opened { (d : Doc) → ValuesHold d (opening d) }
+
+    // An event keeps it where no access comes before a write that its tile performed earlier.
     ensures kept { (b : Behaviour) (laws : KeepsLaws b) (d : Doc) (s new : ChipState)
-        (event : Event) → DocFits d → StateHolds b laws d s → AreInTurn s → ValuesHold d s
-        → step b (chip_of d) s event ≡ Some new → ValuesHold d new }
+        (event : Event) → DocFits d → StateHolds b laws d s → AreSucceeding new.accesses
+        → ValuesHold d s → step b (chip_of d) s event ≡ Some new → ValuesHold d new }
+
+    // So it is along every run.
     ensures reached { (b : Behaviour) (laws : KeepsLaws b) (d : Doc) (events : List Event)
         (s : ChipState) → DocFits d → run b (chip_of d) (opening d) events ≡ Some s
         → ValuesHold d s }
 {
     chip_laws::chip_network_laws();
-    chip_laws::core_order_laws();
     supply_laws::reachable_laws();
 }
 
-/// All that the accesses of a chip of in-order cores rest on, in every state that it reaches. At run
-/// time it does nothing.
+/// All that the accesses of a chip of in-order cores rest on, in every state that it reaches. At
+/// run time it does nothing.
 pub fn reached_access_laws()
     // It holds before any event, and each event keeps it.
     ensures opened { (d : Doc) → DocFits d → AccessesHold d (opening d) }

@@ -1,6 +1,7 @@
 use Rattle.chip_model.specs.ChipState.{opening}
 use Rattle.value_laws.proofs.OpenedValues.{values_opened}
-use Rattle.value_laws.proofs.ReachedTurns.{turns_opened, values_in_turn, turns_reached}
+use Rattle.value_laws.proofs.ReachedTurns.{turns_opened}
+use Rattle.value_laws.proofs.KeptValues.{values_kept, values_reached}
 use Rattle.value_laws.proofs.values.kept_value_laws.Goals as goal
 
 pub returns : goal.returns
@@ -10,8 +11,8 @@ returns c =
     let messages = c.chip_network_laws.ensures.messages in
     record {
       opened = values_opened;
-      kept = λ b laws d s new event fits holds turn values e. values_in_turn kept messages b laws d s new event (requests d fits) holds turn values e;
+      kept = λ b laws d s new event fits holds turn values e. values_kept kept messages b laws d s new event (requests d fits) holds turn values e;
       reached = λ b laws d events s fits e.
-          (turns_reached kept messages b laws d events (opening d) s (requests d fits) (c.reachable_laws.ensures.opened b laws d fits)
-          (turns_opened c.core_order_laws.ensures.opened d) (values_opened d) e).1;
+          values_reached kept messages b laws d events (opening d) s (requests d fits) (c.reachable_laws.ensures.opened b laws d fits) (turns_opened d)
+          (values_opened d) e;
     }
