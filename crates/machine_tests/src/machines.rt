@@ -90,7 +90,7 @@ fn run_to_its_end(alloc: Global) -> Result<Machine<InOrder>, Fail> {
     let mut machine = opened(alloc)?;
     for e in EVENTS {
         if possible(&machine) != 1 || machine.first_enabled() != Some(e) {
-            return Err(Fail);
+            Err(NotEnabled)?;
         }
         step(&mut machine, e)?;
     }
