@@ -79,7 +79,7 @@ fn possible(machine: &Machine<InOrder>) -> u32 {
     let mut count = 0;
     for k in 0..machine.slots() {
         if slot(machine, k).is_some_and(|e| machine.enabled(e)) {
-            count += 1;
+            count = u32::saturating_add(count, 1);
         }
     }
     count
