@@ -58,17 +58,26 @@ quiet n s left same accesses h = record {
   accesses = omega (arith, h.accesses, ap (λ (a : List Access). length a) accesses);
 }
 
-works : (n : ℕ) (s left : ChipState) (t : ℕ) (unit new : UnitState) (access : Option Access) → ChangesUnit s left t unit new → OneMore unit new → left.accesses ≡ with_access access s.accesses
+works : (n : ℕ) (s left : ChipState) (t : ℕ) (unit new : UnitState) (access : Option Access) → ChangesUnit s left t unit new → OneMore unit new
+    → left.accesses ≡ with_access access s.accesses
     → IsCounted n s → IsCounted (n + 1) left
 works n s left t unit new access changes more accesses h = record {
   units = each_unit (λ u other. UnitCounted (n + 1) other) s left t unit new changes
-      (record { steps = omega (arith, more.steps, (h.units t unit changes.at).steps); delivered = omega (arith, more.delivered, (h.units t unit changes.at).delivered) })
+      (record {
+        steps = omega (arith, more.steps, (h.units t unit changes.at).steps);
+        delivered = omega (
+          arith,
+          more.delivered,
+          (h.units t unit changes.at).delivered,
+        );
+      })
       (λ u other away at. record { steps = omega (arith, (h.units u other at).steps); delivered = omega (arith, (h.units u other at).delivered) });
   accesses = omega (arith, h.accesses, ap (λ (a : List Access). length a) accesses, access_more access s.accesses);
 }
 
 -- a core event delivers nothing
-worked : (d : Doc) (s : ChipState) (t : ℕ) (unit : UnitState) (acted : Acted) → ProtocolHolds d s → slice_get s.units t ≡ Some unit → Works unit acted → acted.0.node.delivered ≡ unit.node.delivered
+worked : (d : Doc) (s : ChipState) (t : ℕ) (unit : UnitState) (acted : Acted) → ProtocolHolds d s → slice_get s.units t ≡ Some unit → Works unit acted
+    → acted.0.node.delivered ≡ unit.node.delivered
 worked d s t unit acted holds at by = elim by [
   | inl alone ↦ ap (λ (n : Node). n.delivered) alone.node
   | inr tries ↦ (
@@ -94,34 +103,61 @@ unfolding node_after_request
 request_more q node = refl
 
 -- an event counts one more at most
-event_counted : (b : Behaviour) (laws : KeepsLaws b) → CountsOne b → (d : Doc) (n : ℕ) (s left : ChipState) (event : Event) → StateHolds b laws d s → EventDoes b (chip_of d) s left event
+event_counted : (b : Behaviour) (laws : KeepsLaws b) → CountsOne b → (d : Doc) (n : ℕ) (s left : ChipState) (event : Event) → StateHolds b laws d s
+    → EventDoes b (chip_of d) s left event
     → IsCounted n s → IsCounted (n + 1) left
 event_counted b laws one d n s left Tick holds does h = quiet n s left does.units does.accesses h
 event_counted b laws one d n s left (Core t) holds does h =
     let law = laws.stepped does.unit (holds.fit t does.unit does.changes.at) does.ready in
     works n s left t does.unit (b.stepped does.unit).0 (b.stepped does.unit).1 does.changes
-    (record { steps = one.stepped does.unit; delivered = omega (arith, worked d s t does.unit (b.stepped does.unit) holds.protocol does.changes.at law.1) }) does.accesses h
+    (record {
+      steps = one.stepped does.unit;
+      delivered = omega (
+        arith,
+        worked d s t does.unit
+            (b.stepped does.unit) holds.protocol does.changes.at law.1,
+      );
+    }) does.accesses h
 event_counted b laws one d n s left (Inject t) holds does h =
-    works n s left t does.unit (record does.unit { node = after_request_sent does.unit.node }) None does.changes (sent_more does.unit (after_request_sent does.unit.node) (asked_same does.unit.node)) does.accesses h
+    works n s left t does.unit (record does.unit { node = after_request_sent does.unit.node }) None does.changes (sent_more does.unit
+    (after_request_sent does.unit.node) (asked_same does.unit.node)) does.accesses h
 event_counted b laws one d n s left (Post t) holds does h = quiet n s left does.units does.accesses h
 event_counted b laws one d n s left (Take t) holds does h = quiet n s left does.units does.accesses h
 event_counted b laws one d n s left (Eject t) holds does h =
     let law = laws.delivered does.request does.unit (holds.fit t does.unit does.changes.at) in
     works n s left t does.unit (b.delivered does.request does.unit).0 (b.delivered does.request does.unit).1 does.changes
-    (record { steps = one.delivered does.request does.unit; delivered = omega (arith, ap (λ (x : Node). x.delivered) law.1.goes_on.node, request_more does.request does.unit.node) }) does.accesses h
+    (record {
+      steps = one.delivered does.request does.unit;
+      delivered = omega (
+        arith,
+        ap
+            (λ (x : Node). x.delivered) law.1.goes_on.node,
+        request_more does.request does.unit.node,
+      );
+    }) does.accesses h
 event_counted b laws one d n s left (Send t) holds does h =
-    works n s left t does.unit (record does.unit { node = after_message_sent does.unit.node }) None does.changes (sent_more does.unit (after_message_sent does.unit.node) (left_same does.unit.node)) does.accesses h
+    works n s left t does.unit (record does.unit { node = after_message_sent does.unit.node }) None does.changes (sent_more does.unit
+    (after_message_sent does.unit.node) (left_same does.unit.node)) does.accesses h
 event_counted b laws one d n s left (Hop r port slot out) holds does h = quiet n s left does.units does.accesses h
 event_counted b laws one d n s left (DataHop r port slot) holds does h = quiet n s left does.units does.accesses h
 event_counted b laws one d n s left (DataEject r port slot) holds does h =
     let law = laws.received does.msg does.unit (holds.fit r does.unit does.changes.at) in
     works n s left r does.unit (b.received does.msg does.unit).0 (b.received does.msg does.unit).1 does.changes
-    (record { steps = one.received does.msg does.unit; delivered = omega (arith, ap (λ (x : Node). x.delivered) law.1.goes_on.node, same_delivered does.msg does.unit.node) }) does.accesses h
+    (record {
+      steps = one.received does.msg does.unit;
+      delivered = omega (
+        arith,
+        ap
+            (λ (x : Node). x.delivered) law.1.goes_on.node,
+        same_delivered does.msg does.unit.node,
+      );
+    }) does.accesses h
 
 noted_counted : (n : ℕ) (s : ChipState) (event : Event) → IsCounted n s → IsCounted n (noted event s)
 noted_counted n s event h = record { units = h.units; accesses = h.accesses }
 
-run_counted : IsKept → (b : Behaviour) (laws : KeepsLaws b) → CountsOne b → (d : Doc) (events : List Event) (n : ℕ) (s last : ChipState) → DocFits d → StateHolds b laws d s → IsCounted n s
+run_counted : IsKept → (b : Behaviour) (laws : KeepsLaws b) → CountsOne b → (d : Doc) (events : List Event) (n : ℕ) (s last : ChipState) → DocFits d
+    → StateHolds b laws d s → IsCounted n s
     → run b (chip_of d) s events ≡ Some last → IsCounted (n + length events) last
 unfolding run
 run_counted kept b laws one d [] n s last fits holds h e =
@@ -130,7 +166,8 @@ run_counted kept b laws one d (event ∷ events) n s last fits holds h e =
     bind (after b (chip_of d) s event) (λ new. run b (chip_of d) new events) last e (λ new first rest.
     let made = noted_after b (chip_of d) s new event first in
     let next = subst (StateHolds b laws d) made.2 (noted_state b laws d made.0 event (kept b laws d s made.0 event fits holds made.1)) in
-    let counted = subst (IsCounted (n + 1)) made.2 (noted_counted (n + 1) made.0 event (event_counted b laws one d n s made.0 event holds (event_does b (chip_of d) s made.0 event made.1) h)) in
+    let counted = subst (IsCounted (n + 1)) made.2 (noted_counted (n + 1) made.0 event (event_counted b laws one d n s made.0 event holds (event_does b
+    (chip_of d) s made.0 event made.1) h)) in
     subst (λ (m : ℕ). IsCounted m last) (omega arith) (run_counted kept b laws one d events (n + 1) new last fits next counted rest))
 
 -- at the opening nothing is counted
@@ -140,10 +177,12 @@ opened_counted d = record {
   accesses = omega arith;
 }
   where
-    by : (tiles : List ℕ) (t : ℕ) (unit : UnitState) → slice_get (map (λ tile. opening_unit (chip_of d) tile (program_of d tile) d.memory) tiles) t ≡ Some unit → UnitCounted 0 unit
+    by : (tiles : List ℕ) (t : ℕ) (unit : UnitState)
+        → slice_get (map (λ tile. opening_unit (chip_of d) tile (program_of d tile) d.memory) tiles) t ≡ Some unit → UnitCounted 0 unit
     by [] t unit at = cc
     by (tile ∷ tiles) zero unit at =
-        subst (UnitCounted 0) (same_Some (opening_unit (chip_of d) tile (program_of d tile) d.memory) unit at) (record { steps = omega arith; delivered = omega arith })
+        subst (UnitCounted 0) (same_Some (opening_unit (chip_of d) tile (program_of d tile) d.memory) unit at)
+        (record { steps = omega arith; delivered = omega arith })
     by (tile ∷ tiles) (suc t) unit at = by tiles t unit at
 
 -- every state that a run comes to

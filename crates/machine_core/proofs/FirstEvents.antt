@@ -18,5 +18,6 @@ pub find_none : {X : Type 0} (test : X → Bool) (xs : List X) → ((j : ℕ) (y
 find_none test [] none = refl
 find_none test (z ∷ xs) none = find_none test xs (λ j. none (suc j)) ∙ ap (λ (b : Bool). cond b (Some z) (find test xs)) (sym (none 0 z refl))
 
-pub not_contained : {X : Type 0} (test : X → Bool) (xs : List X) (x : X) → ((j : ℕ) (y : X) → slice_get xs j ≡ Some y → test y ≡ false) → Contains xs x → test x ≡ false
+pub not_contained : {X : Type 0} (test : X → Bool) (xs : List X) (x : X) → ((j : ℕ) (y : X) → slice_get xs j ≡ Some y → test y ≡ false) → Contains xs x
+    → test x ≡ false
 not_contained test xs x none has = none has.0 x (slice_get-get_or xs has.0 x has.1 ∙ ap Some has.2)

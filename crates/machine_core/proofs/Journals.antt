@@ -32,33 +32,45 @@ made j x is y e = ap (λ (s : ChipState). s.journal) (sym (same_Some x y e)) ∙
 -- a step leaves the journal as it is
 pub step_journal : (b : Behaviour) (chip : Chip) (s : ChipState) (event : Event) → HasJournal s.journal (step b chip s event)
 unfolding step unit_at
-step_journal b chip s Tick = through s.journal (after_network_tick chip s.network) (λ network. Some (with_network network s)) (λ network. made s.journal (with_network network s) refl)
+step_journal b chip s Tick = through s.journal (after_network_tick chip s.network) (λ network. Some (with_network network s))
+    (λ network. made s.journal (with_network network s) refl)
 step_journal b chip s (Core t) =
     through s.journal (slice_get s.units t) (λ unit. when (b.ready unit) (Some (with_acted t (b.stepped unit) s))) (λ unit.
     guarded s.journal (b.ready unit) (Some (with_acted t (b.stepped unit) s)) (made s.journal (with_acted t (b.stepped unit) s) refl))
 step_journal b chip s (Inject t) =
-    through s.journal (slice_get s.units t) (λ unit. wanted unit.node.side.misses >>= (λ asked. after_inject chip s.network t asked.0 asked.1 >>= (λ network. Some (with_node t unit (after_request_sent unit.node) (with_network network s))))) (λ unit.
-    through s.journal (wanted unit.node.side.misses) (λ asked. after_inject chip s.network t asked.0 asked.1 >>= (λ network. Some (with_node t unit (after_request_sent unit.node) (with_network network s)))) (λ asked.
-    through s.journal (after_inject chip s.network t asked.0 asked.1) (λ network. Some (with_node t unit (after_request_sent unit.node) (with_network network s))) (λ network.
+    through s.journal (slice_get s.units t) (λ unit. wanted unit.node.side.misses >>= (λ asked. after_inject chip s.network t asked.0 asked.1 >>=
+    (λ network. Some (with_node t unit (after_request_sent unit.node) (with_network network s))))) (λ unit.
+    through s.journal (wanted unit.node.side.misses) (λ asked. after_inject chip s.network t asked.0 asked.1 >>=
+    (λ network. Some (with_node t unit (after_request_sent unit.node) (with_network network s)))) (λ asked.
+    through s.journal (after_inject chip s.network t asked.0 asked.1)
+    (λ network. Some (with_node t unit (after_request_sent unit.node) (with_network network s))) (λ network.
     made s.journal (with_node t unit (after_request_sent unit.node) (with_network network s)) refl)))
-step_journal b chip s (Post t) = through s.journal (after_request_post s.network t) (λ network. Some (with_network network s)) (λ network. made s.journal (with_network network s) refl)
-step_journal b chip s (Take t) = through s.journal (after_vector_take s.network t) (λ network. Some (with_network network s)) (λ network. made s.journal (with_network network s) refl)
+step_journal b chip s (Post t) = through s.journal (after_request_post s.network t) (λ network. Some (with_network network s))
+    (λ network. made s.journal (with_network network s) refl)
+step_journal b chip s (Take t) = through s.journal (after_vector_take s.network t) (λ network. Some (with_network network s))
+    (λ network. made s.journal (with_network network s) refl)
 step_journal b chip s (Eject t) =
-    through s.journal (slice_get s.units t) (λ unit. after_delivery chip s.network t >>= (λ out. Some (with_acted t (b.delivered out.0 unit) (with_network out.1 s)))) (λ unit.
+    through s.journal (slice_get s.units t) (λ unit. after_delivery chip s.network t >>=
+    (λ out. Some (with_acted t (b.delivered out.0 unit) (with_network out.1 s)))) (λ unit.
     through s.journal (after_delivery chip s.network t) (λ out. Some (with_acted t (b.delivered out.0 unit) (with_network out.1 s))) (λ out.
     made s.journal (with_acted t (b.delivered out.0 unit) (with_network out.1 s)) refl))
 step_journal b chip s (Send t) =
-    through s.journal (slice_get s.units t) (λ unit. slice_get unit.node.out 0 >>= (λ msg. after_send s.replies t msg >>= (λ replies. Some (with_node t unit (after_message_sent unit.node) (record s { replies = replies }))))) (λ unit.
-    through s.journal (slice_get unit.node.out 0) (λ msg. after_send s.replies t msg >>= (λ replies. Some (with_node t unit (after_message_sent unit.node) (record s { replies = replies })))) (λ msg.
-    through s.journal (after_send s.replies t msg) (λ replies. Some (with_node t unit (after_message_sent unit.node) (record s { replies = replies }))) (λ replies.
+    through s.journal (slice_get s.units t) (λ unit. slice_get unit.node.out 0 >>= (λ msg. after_send s.replies t msg >>=
+    (λ replies. Some (with_node t unit (after_message_sent unit.node) (record s { replies = replies }))))) (λ unit.
+    through s.journal (slice_get unit.node.out 0) (λ msg. after_send s.replies t msg >>=
+    (λ replies. Some (with_node t unit (after_message_sent unit.node) (record s { replies = replies })))) (λ msg.
+    through s.journal (after_send s.replies t msg) (λ replies. Some (with_node t unit (after_message_sent unit.node) (record s { replies = replies })))
+    (λ replies.
     made s.journal (with_node t unit (after_message_sent unit.node) (record s { replies = replies })) refl)))
 step_journal b chip s (Hop r port slot out) =
     through s.journal (after_copy_hop chip s.network r port slot out) (λ network. Some (record s { network = network; hops = s.hops + 1 })) (λ network.
     made s.journal (record s { network = network; hops = s.hops + 1 }) refl)
 step_journal b chip s (DataHop r port slot) =
-    through s.journal (after_data_hop chip.grid s.replies r port slot) (λ replies. Some (record s { replies = replies })) (λ replies. made s.journal (record s { replies = replies }) refl)
+    through s.journal (after_data_hop chip.grid s.replies r port slot) (λ replies. Some (record s { replies = replies }))
+    (λ replies. made s.journal (record s { replies = replies }) refl)
 step_journal b chip s (DataEject r port slot) =
-    through s.journal (after_data_eject s.replies r port slot) (λ out. slice_get s.units r >>= (λ unit. Some (with_acted r (b.received out.0 unit) (record s { replies = out.1 })))) (λ out.
+    through s.journal (after_data_eject s.replies r port slot) (λ out. slice_get s.units r >>=
+    (λ unit. Some (with_acted r (b.received out.0 unit) (record s { replies = out.1 })))) (λ out.
     through s.journal (slice_get s.units r) (λ unit. Some (with_acted r (b.received out.0 unit) (record s { replies = out.1 }))) (λ unit.
     made s.journal (with_acted r (b.received out.0 unit) (record s { replies = out.1 })) refl))
 
@@ -69,7 +81,8 @@ after_journal b chip s new event e =
     ap (λ (x : ChipState). x.journal) (sym is) ∙ ap (λ (j : List Event). j ++ event ∷ []) (step_journal b chip s event left stepped)
 
 -- one event more at the end of a run
-pub run_more : (b : Behaviour) (chip : Chip) (events : List Event) (first s new : ChipState) (event : Event) → run b chip first events ≡ Some s → after b chip s event ≡ Some new
+pub run_more : (b : Behaviour) (chip : Chip) (events : List Event) (first s new : ChipState) (event : Event) → run b chip first events ≡ Some s
+    → after b chip s event ≡ Some new
     → run b chip first (events ++ event ∷ []) ≡ Some new
 unfolding run
 run_more b chip [] first s new event e next =
@@ -80,6 +93,8 @@ run_more b chip (e0 ∷ events) first s new event e next =
     ap (λ o. o >>= (λ y. run b chip y (events ++ event ∷ []))) was ∙ run_more b chip events y s new event rest next)
 
 -- where the journal leads to a state, it leads to the next one
-pub reached_next : (b : Behaviour) (chip : Chip) (first s new : ChipState) (event : Event) → run b chip first s.journal ≡ Some s → after b chip s event ≡ Some new → run b chip first new.journal ≡ Some new
+pub reached_next : (b : Behaviour) (chip : Chip) (first s new : ChipState) (event : Event) → run b chip first s.journal ≡ Some s
+    → after b chip s event ≡ Some new → run b chip first new.journal ≡ Some new
 reached_next b chip first s new event reached next =
-    subst (λ (j : List Event). run b chip first j ≡ Some new) (sym (after_journal b chip s new event next)) (run_more b chip s.journal first s new event reached next)
+    subst (λ (j : List Event). run b chip first j ≡ Some new) (sym (after_journal b chip s new event next))
+    (run_more b chip s.journal first s new event reached next)

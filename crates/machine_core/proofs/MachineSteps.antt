@@ -1,5 +1,6 @@
 -- An event of a machine is an event of one of its stations.
-use Rattle.std.proofs.Common.{◌≡◌, ℕ, zero, suc, ◌<◌, ◌≤◌, Bool, true, false, List, [], ◌∷◌, ◌++◌, Option, Some, None, length, refl, sym, ◌∙◌, ap, subst, arith, inl, inr, mul-pos}
+use Rattle.std.proofs.Common.{◌≡◌, ℕ, zero, suc, ◌<◌, ◌≤◌, Bool, true, false, List, [], ◌∷◌, ◌++◌, Option, Some, None, length, refl, sym, ◌∙◌, ap, subst}
+use Rattle.std.proofs.Common.{arith, inl, inr, mul-pos}
 use Rattle.std.specs.Prelude.{slice_get, set, replicate, is_some, get_or, Result, Ok, Err, OnOk, OnErr}
 use Rattle.std.proofs.lemmas.Bool.{cases_eq}
 use Rattle.std.proofs.lemmas.List.{append-nil, length-map, map-set}
@@ -44,7 +45,8 @@ seen_is fab stations t st at tile settled =
     (ap (λ n. events_of fab.entries ++ replicate n (Core st.tile)) settled.cores ∙ append-nil (events_of fab.entries))
 
 -- a station of a machine, with the fabric, is of a state that a run comes to
-pub station_of_run : (b : Behaviour) (d : Doc) (fab : FabricState) (stations : List StationState) (t : ℕ) (st : StationState) → AreParts b d fab stations → slice_get stations t ≡ Some st → AreOfRun b st fab
+pub station_of_run : (b : Behaviour) (d : Doc) (fab : FabricState) (stations : List StationState) (t : ℕ) (st : StationState) → AreParts b d fab stations
+    → slice_get stations t ≡ Some st → AreOfRun b st fab
 station_of_run b d fab stations t st parts at =
     let place = parts.places t st at in
     record {
@@ -62,7 +64,8 @@ inside_units stations t st at tile = omega (arith, tile, slice_get_within statio
 
 -- ---- whether an event is possible
 
-pub told_by : (b : Behaviour) (d : Doc) (fab : FabricState) (stations : List StationState) (t : ℕ) (st : StationState) (e : Event) (answer : Bool) → AreParts b d fab stations → slice_get stations t ≡ Some st
+pub told_by : (b : Behaviour) (d : Doc) (fab : FabricState) (stations : List StationState) (t : ℕ) (st : StationState) (e : Event) (answer : Bool)
+    → AreParts b d fab stations → slice_get stations t ≡ Some st
     → Tells b fab.chip e st fab answer → answer ≡ enabled b (chip_of d) (chip_state fab (units_of stations)) e
 told_by b d fab stations t st e answer parts at tells =
     let place = parts.places t st at in
@@ -75,9 +78,11 @@ by_bool true yes_ no_ = yes_ refl
 by_bool false yes_ no_ = no_ refl
 
 -- an event of no tile is not possible
-pub no_tile : (b : Behaviour) (laws : KeepsLaws b) (d : Doc) (s : ChipState) (e : Event) → StateHolds b laws d s → 0 < tile_count (chip_of d) → length s.units ≤ tile_of e → false ≡ enabled b (chip_of d) s e
+pub no_tile : (b : Behaviour) (laws : KeepsLaws b) (d : Doc) (s : ChipState) (e : Event) → StateHolds b laws d s → 0 < tile_count (chip_of d)
+    → length s.units ≤ tile_of e → false ≡ enabled b (chip_of d) s e
 no_tile b laws d s e holds some out = by_bool (enabled b (chip_of d) s e)
-    (λ possible. let inside = slot_tile (chip_of d) e some (enabled_slot b d s holds.protocol e possible) in absurd (omega (arith, inside, out, holds.protocol.units)))
+    (λ possible. let inside = slot_tile (chip_of d) e some (enabled_slot b d s holds.protocol e possible) in absurd (omega
+    (arith, inside, out, holds.protocol.units)))
     (λ not_possible. sym not_possible)
 
 none_of : {X : Type 0} (o : Option X) → is_some o ≡ false → o ≡ None
@@ -102,7 +107,8 @@ at_station (Hop r port slot out) t is = sym is
 at_station (DataHop r port slot) t is = sym is
 at_station (DataEject r port slot) t is = sym is
 
-places_kept : (stations : List StationState) (t : ℕ) (st new : StationState) → AreInPlace stations → slice_get stations t ≡ Some st → new.tile ≡ st.tile → IsSettled new → AreInPlace (set stations t new)
+places_kept : (stations : List StationState) (t : ℕ) (st new : StationState) → AreInPlace stations → slice_get stations t ≡ Some st → new.tile ≡ st.tile
+    → IsSettled new → AreInPlace (set stations t new)
 places_kept stations t st new places at tile settled u other here = elim (cases_eq u t) [
   | inl same ↦ (
       let is : new ≡ other = same_Some new other (sym (slice_get-set_same stations t st new at) ∙ (ap (slice_get (set stations t new)) (sym same) ∙ here)) in
@@ -111,7 +117,8 @@ places_kept stations t st new places at tile settled u other here = elim (cases_
 ]
 
 -- the chip after the event
-after_is : (b : Behaviour) (d : Doc) (fab new_fab : FabricState) (stations : List StationState) (t : ℕ) (st new : StationState) (e : Event) → AreParts b d fab stations → slice_get stations t ≡ Some st
+after_is : (b : Behaviour) (d : Doc) (fab new_fab : FabricState) (stations : List StationState) (t : ℕ) (st new : StationState) (e : Event)
+    → AreParts b d fab stations → slice_get stations t ≡ Some st
     → TakesChip b fab.chip e st fab new new_fab → new.tile ≡ st.tile → IsSettled new
     → after b (chip_of d) (chip_state fab (units_of stations)) e ≡ Some (chip_state new_fab (units_of (set stations t new)))
 after_is b d fab new_fab stations t st new e parts at takes tile settled =
@@ -119,18 +126,21 @@ after_is b d fab new_fab stations t st new e parts at takes tile settled =
     ap (λ (c : Chip). after b c (chip_state fab (units_of stations)) e) (sym parts.chip)
     ∙ ap (λ (s : ChipState). after b fab.chip s e) (sym (seen_is fab stations t st at place.0 place.1))
     ∙ takes (units_of stations) (inside_units stations t st at place.0)
-    ∙ ap Some (same_chip new_fab.network new_fab.replies new_fab.hops (set (units_of stations) new.tile new.unit) (units_of (set stations t new)) (new_fab.accesses ++ new.accesses) new_fab.accesses
+    ∙ ap Some (same_chip new_fab.network new_fab.replies new_fab.hops (set (units_of stations) new.tile new.unit) (units_of (set stations t new))
+    (new_fab.accesses ++ new.accesses) new_fab.accesses
     (events_of new_fab.entries ++ replicate new.cores (Core new.tile)) (events_of new_fab.entries)
     (ap (λ n. set (units_of stations) n new.unit) (tile ∙ place.0) ∙ sym (map-set (λ (s : StationState). s.unit) stations t new))
     (ap (λ rest. new_fab.accesses ++ rest) settled.accesses ∙ append-nil new_fab.accesses)
     (ap (λ n. events_of new_fab.entries ++ replicate n (Core new.tile)) settled.cores ∙ append-nil (events_of new_fab.entries)))
 
-pub machine_after : (b : Behaviour) (d : Doc) (fab new_fab : FabricState) (stations : List StationState) (t : ℕ) (st new : StationState) (e : Event) → AreParts b d fab stations → slice_get stations t ≡ Some st
+pub machine_after : (b : Behaviour) (d : Doc) (fab new_fab : FabricState) (stations : List StationState) (t : ℕ) (st new : StationState) (e : Event)
+    → AreParts b d fab stations → slice_get stations t ≡ Some st
     → TakesChip b fab.chip e st fab new new_fab → StaysInPlace st fab new new_fab
     → after b (chip_of d) (chip_state fab (units_of stations)) e ≡ Some (chip_state new_fab (units_of (set stations t new)))
 machine_after b d fab new_fab stations t st new e parts at takes stays = after_is b d fab new_fab stations t st new e parts at takes stays.tile stays.settled
 
-pub parts_after : (b : Behaviour) (d : Doc) (fab new_fab : FabricState) (stations : List StationState) (t : ℕ) (st new : StationState) (e : Event) → AreParts b d fab stations → slice_get stations t ≡ Some st
+pub parts_after : (b : Behaviour) (d : Doc) (fab new_fab : FabricState) (stations : List StationState) (t : ℕ) (st new : StationState) (e : Event)
+    → AreParts b d fab stations → slice_get stations t ≡ Some st
     → TakesChip b fab.chip e st fab new new_fab → StaysInPlace st fab new new_fab → AreParts b d new_fab (set stations t new)
 parts_after b d fab new_fab stations t st new e parts at takes stays = record {
   within = parts.within;
@@ -141,7 +151,8 @@ parts_after b d fab new_fab stations t st new e parts at takes stays = record {
       (machine_after b d fab new_fab stations t st new e parts at takes stays);
 }
 
-pub machine_refused : (b : Behaviour) (d : Doc) (fab : FabricState) (stations : List StationState) (t : ℕ) (st : StationState) (e : Event) → AreParts b d fab stations → slice_get stations t ≡ Some st
+pub machine_refused : (b : Behaviour) (d : Doc) (fab : FabricState) (stations : List StationState) (t : ℕ) (st : StationState) (e : Event)
+    → AreParts b d fab stations → slice_get stations t ≡ Some st
     → IsRefused b fab.chip e st fab → after b (chip_of d) (chip_state fab (units_of stations)) e ≡ None
 machine_refused b d fab stations t st e parts at refused =
     let place = parts.places t st at in

@@ -39,14 +39,18 @@ use Rattle.machine_core.proofs.Counted.{reached_counted}
 
 -- what deliveries and arrivals meet, as the laws below say it
 abbrev pub DeliveriesMeet : ℕ → ℕ → Type 0
-DeliveriesMeet places queue = (d : Doc) (s : ChipState) (t : ℕ) (unit : UnitState) (q : Request) (net : OrderedNetwork) → DocFits d → tile_count (chip_of d) ≤ most_tiles
+DeliveriesMeet places queue = (d : Doc) (s : ChipState) (t : ℕ) (unit : UnitState) (q : Request) (net : OrderedNetwork) → DocFits d
+    → tile_count (chip_of d) ≤ most_tiles
     → ProtocolHolds d s → slice_get s.units t ≡ Some unit → after_delivery (chip_of d) s.network t ≡ Some (q, net) → DeliveryFits places queue unit.node q
 
 abbrev pub ArrivalsMeet : ℕ → Type 0
-ArrivalsMeet queue = (d : Doc) (s : ChipState) (t : ℕ) (port : Port) (slot : ℕ) (unit : UnitState) (m : Msg) (replies : Network Msg) → DocFits d → tile_count (chip_of d) ≤ most_tiles
-    → ProtocolHolds d s → DataAnswersGets s → slice_get s.units t ≡ Some unit → after_data_eject s.replies t port slot ≡ Some (m, replies) → ArrivalFits queue unit.node m
+ArrivalsMeet queue = (d : Doc) (s : ChipState) (t : ℕ) (port : Port) (slot : ℕ) (unit : UnitState) (m : Msg) (replies : Network Msg) → DocFits d
+    → tile_count (chip_of d) ≤ most_tiles
+    → ProtocolHolds d s → DataAnswersGets s → slice_get s.units t ≡ Some unit → after_data_eject s.replies t port slot ≡ Some (m, replies)
+    → ArrivalFits queue unit.node m
 
-networks_of : (d : Doc) (s : ChipState) (fab : FabricState) → fab.chip ≡ chip_of d → fab.network ≡ s.network → fab.replies ≡ s.replies → 0 < tile_count fab.chip → tile_count (chip_of d) ≤ most_tiles
+networks_of : (d : Doc) (s : ChipState) (fab : FabricState) → fab.chip ≡ chip_of d → fab.network ≡ s.network → fab.replies ≡ s.replies
+    → 0 < tile_count fab.chip → tile_count (chip_of d) ≤ most_tiles
     → d.vcs ≤ 8 → d.data_vcs ≤ 4 → ProtocolHolds d s → NetworksFit fab
 networks_of d s fab chip network replies some few vcs data_vcs holds = record {
   some = some;
@@ -54,12 +58,14 @@ networks_of d s fab chip network replies some few vcs data_vcs holds = record {
   vcs = subst (λ (c : Chip). c.vcs ≤ 8) (sym chip) vcs;
   data_vcs = subst (λ (c : Chip). c.data_vcs ≤ 4) (sym chip) data_vcs;
   network = subst (λ (c : Chip). NetworkFits c fab.network) (sym chip) (subst (NetworkFits (chip_of d)) (sym network) holds.network.requests);
-  replies = subst (λ (c : Chip). HasChannels c.grid c.data_vcs false fab.replies) (sym chip) (subst (HasChannels (chip_of d).grid d.data_vcs false) (sym replies) holds.network.replies);
+  replies = subst (λ (c : Chip). HasChannels c.grid c.data_vcs false fab.replies) (sym chip) (subst (HasChannels (chip_of d).grid d.data_vcs false)
+      (sym replies) holds.network.replies);
 }
 
 -- how long the journal is that a station sees
 seen_length : (st : StationState) (fab : FabricState) (units : List UnitState) → length (seen_by st fab units).journal ≡ event_count fab + st.cores
-seen_length st fab units = length-append (events_of fab.entries) (replicate st.cores (Core st.tile)) ∙ ap (λ n. event_count fab + n) (length-replicate st.cores (Core st.tile))
+seen_length st fab units = length-append (events_of fab.entries) (replicate st.cores (Core st.tile))
+    ∙ ap (λ n. event_count fab + n) (length-replicate st.cores (Core st.tile))
 
 pub meets_calls : (places queue : ℕ) (b : Behaviour) (laws : KeepsLaws b) → CountsOne b → IsKept
     → ((d : Doc) → DocFits d → StateHolds b laws d (opening d))
@@ -94,18 +100,22 @@ meets_calls places queue b laws one kept opens reaches delivers arrives st fab o
     }
 
 -- the next event may be noted, and there is room for its access
-pub may_note : (places queue : ℕ) (st : StationState) (fab : FabricState) → MeetsCalls places queue st fab → event_count fab + st.cores + 1 ≤ fab.room → MayNote (made_by st) fab
+pub may_note : (places queue : ℕ) (st : StationState) (fab : FabricState) → MeetsCalls places queue st fab → event_count fab + st.cores + 1 ≤ fab.room
+    → MayNote (made_by st) fab
 may_note places queue st fab meets room = record { by = meets.tile; cores = meets.cores; room = room }
 
-pub room_left : (places queue : ℕ) (st : StationState) (fab moved : FabricState) → MeetsCalls places queue st fab → event_count fab + st.cores + 1 ≤ fab.room → SameRoom fab moved
+pub room_left : (places queue : ℕ) (st : StationState) (fab moved : FabricState) → MeetsCalls places queue st fab
+    → event_count fab + st.cores + 1 ≤ fab.room → SameRoom fab moved
     → length moved.accesses + length st.accesses + 1 ≤ moved.room
 room_left places queue st fab moved meets room same = omega (arith, meets.accesses, room, same.room, ap (λ (a : List Access). length a) same.accesses)
 
 -- a request that the fabric delivers, and a message that it brings, meet what the unit's calls ask
-pub delivery_meets : (places queue : ℕ) (st : StationState) (fab moved : FabricState) (q : Request) → MeetsCalls places queue st fab → fabric_after_eject (made_by st) st.tile fab ≡ Some (q, moved)
+pub delivery_meets : (places queue : ℕ) (st : StationState) (fab moved : FabricState) (q : Request) → MeetsCalls places queue st fab
+    → fabric_after_eject (made_by st) st.tile fab ≡ Some (q, moved)
     → DeliveryFits places queue st.unit.node q
 delivery_meets places queue st fab moved q meets is = let from = delivery_came st fab moved q is in meets.deliver q from.0 from.1
 
 pub arrival_meets : (places queue : ℕ) (st : StationState) (fab moved : FabricState) (port : Port) (slot : ℕ) (msg : Msg) → MeetsCalls places queue st fab
     → fabric_after_data_eject (made_by st) st.tile port slot fab ≡ Some (msg, moved) → ArrivalFits queue st.unit.node msg
-arrival_meets places queue st fab moved port slot msg meets is = let from = arrival_came st fab moved port slot msg is in meets.receive port slot msg from.0 from.1
+arrival_meets places queue st fab moved port slot msg meets is = let from = arrival_came st fab moved port slot msg is in meets.receive port slot msg
+    from.0 from.1

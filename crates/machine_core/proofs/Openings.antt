@@ -1,5 +1,6 @@
 -- A machine before any event.
-use Rattle.std.proofs.Common.{◌≡◌, ℕ, zero, suc, ◌+◌, ◌*◌, ◌^◌, ◌<◌, ◌≤◌, List, [], ◌∷◌, ◌++◌, Some, length, get_or, refl, sym, ◌∙◌, ap, subst, arith, mul-le-mul}
+use Rattle.std.proofs.Common.{◌≡◌, ℕ, zero, suc, ◌+◌, ◌*◌, ◌^◌, ◌<◌, ◌≤◌, List, [], ◌∷◌, ◌++◌, Some, length, get_or, refl, sym, ◌∙◌, ap, subst, arith}
+use Rattle.std.proofs.Common.{mul-le-mul}
 use Rattle.std.specs.Prelude.{slice_get, map}
 use Rattle.std.proofs.Math.Logic.{∥∥₁_elim}
 use Rattle.std.proofs.lemmas.List.{map-append, append-nil, length-map}
@@ -48,7 +49,8 @@ document_within document =
     tiles_few : (cols rows : ℕ) → cols ≤ 8 → rows ≤ 8 → cols * rows ≤ most_tiles
     tiles_few cols rows few_cols few_rows = mul-le-mul few_cols few_rows
 
-units_opened : (d : Doc) (tiles : List ℕ) → units_of (map (opening_station d) tiles) ≡ map (λ tile. opening_unit (chip_of d) tile (program_of d tile) d.memory) tiles
+units_opened : (d : Doc) (tiles : List ℕ)
+    → units_of (map (opening_station d) tiles) ≡ map (λ tile. opening_unit (chip_of d) tile (program_of d tile) d.memory) tiles
 units_opened d [] = refl
 units_opened d (tile ∷ tiles) = ap (λ rest. opening_unit (chip_of d) tile (program_of d tile) d.memory ∷ rest) (units_opened d tiles)
 
@@ -56,19 +58,23 @@ units_opened d (tile ∷ tiles) = ap (λ rest. opening_unit (chip_of d) tile (pr
 pub stations_opened : Doc → List StationState
 stations_opened d = map (opening_station d) (upwards 0 (tile_count (chip_of d)))
 
-pub state_opened : (d : Doc) (room : ℕ) → chip_state (opening_fabric (chip_of d) room) (units_of (map (opening_station d) (upwards 0 (tile_count (chip_of d))))) ≡ opening d
+pub state_opened : (d : Doc) (room : ℕ) → chip_state (opening_fabric (chip_of d) room) (units_of (map (opening_station d) (upwards 0 (tile_count
+    (chip_of d))))) ≡ opening d
 state_opened d room = ap (λ (units : List UnitState). chip_state (opening_fabric (chip_of d) room) units) (units_opened d (upwards 0 (tile_count (chip_of d))))
 
-opened_at : (d : Doc) (first count t : ℕ) (st : StationState) → slice_get (map (opening_station d) (upwards first count)) t ≡ Some st → (st.tile ≡ first + t) × IsSettled st
+opened_at : (d : Doc) (first count t : ℕ) (st : StationState) → slice_get (map (opening_station d) (upwards first count)) t ≡ Some st
+    → (st.tile ≡ first + t) × IsSettled st
 opened_at d first zero t st at = cc
-opened_at d first (suc count) zero st at = subst (λ (x : StationState). (x.tile ≡ first + 0) × IsSettled x) (same_Some (opening_station d first) st at) (omega arith, record { cores = refl; accesses = refl })
+opened_at d first (suc count) zero st at = subst (λ (x : StationState). (x.tile ≡ first + 0)
+    × IsSettled x) (same_Some (opening_station d first) st at) (omega arith, record { cores = refl; accesses = refl })
 opened_at d first (suc count) (suc t) st at = let (tile, settled) = opened_at d (first + 1) count t st at in (omega (arith, tile), settled)
 
 reached_nil : (b : Behaviour) (d : Doc) → IsReachable b d (opening d)
 unfolding run
 reached_nil b d = refl
 
-pub parts_opened : (b : Behaviour) (d : Doc) (room : ℕ) → DocIsWithin d → room < 2 ^ 30 → AreParts b d (opening_fabric (chip_of d) room) (map (opening_station d) (upwards 0 (tile_count (chip_of d))))
+pub parts_opened : (b : Behaviour) (d : Doc) (room : ℕ) → DocIsWithin d → room < 2 ^ 30
+    → AreParts b d (opening_fabric (chip_of d) room) (map (opening_station d) (upwards 0 (tile_count (chip_of d))))
 parts_opened b d room within few = record {
   within = within;
   chip = refl;
@@ -105,7 +111,8 @@ pub station_opened : (document : Document) (t i : ℕ) (st : StationState) (prog
     → st ≡ opening_station (doc_of document) t
 station_opened document t i st program found programs memory is copied read same index words below =
     let here : program ≡ program_of (doc_of document) t =
-    copied ∙ read ∙ ap (λ (list : List (List Instr)). get_or list i found) same ∙ ap (λ n. get_or document.programs n found) index ∙ get_or_any document.programs t found [] below in
+    copied ∙ read ∙ ap (λ (list : List (List Instr)). get_or list i found) same ∙ ap (λ n. get_or document.programs n found) index
+    ∙ get_or_any document.programs t found [] below in
     is ∙ ap (λ (p : List Instr). opened_with p memory) here ∙ ap (opened_with (program_of (doc_of document) t)) words
   where
     opened_with : List Instr → List ℕ → StationState

@@ -1,5 +1,6 @@
 -- In a finished chip the owner of each line keeps its words, and they are the final words.
-use Rattle.std.proofs.Common.{◌≡◌, ℕ, ◌<◌, Bool, true, false, ◌==◌, ◌||◌, List, [], Option, Some, None, is_some, option_map, unwrap_or, length, get_or, sym, ap, ◌∙◌, refl, subst, arith}
+use Rattle.std.proofs.Common.{◌≡◌, ℕ, ◌<◌, Bool, true, false, ◌==◌, ◌||◌, List, [], Option, Some, None, is_some, option_map, unwrap_or, length, get_or, sym}
+use Rattle.std.proofs.Common.{ap, ◌∙◌, refl, subst, arith}
 use Rattle.std.proofs.lemmas.Bool.{eq-eqb, false≢true}
 use Rattle.std.proofs.lemmas.List.{take_all}
 use Rattle.mesh_gen.specs.declared.request.Request.{Request}
@@ -51,7 +52,8 @@ owner_inside d s line t fits h is =
     subst (λ (v : ℕ). v < tile_count (chip_of d)) get.source (source_inside d s get.place get.get fits h get.at)
 
 -- a tile that owns a line has it in its cache
-copy_there : (d : Doc) (s : ChipState) (line t : ℕ) → DocFits d → ProtocolHolds d s → finished s ≡ true → owner line s.network.ordered ≡ Tile t → HasCopy (chip_of d) s line t
+copy_there : (d : Doc) (s : ChipState) (line t : ℕ) → DocFits d → ProtocolHolds d s → finished s ≡ true → owner line s.network.ordered ≡ Tile t
+    → HasCopy (chip_of d) s line t
 copy_there d s line t fits h over is_owner =
     let tile = tile_of d s t h (owner_inside d s line t fits h is_owner) in
     let holds = tile.holds in
@@ -69,7 +71,8 @@ record_there : (o : Option LineRecord) → is_some o ≡ true → (r : LineRecor
 record_there None e = absurd (false≢true e)
 record_there (Some r) e = (r, refl)
 
-kept_by : (d : Doc) (s : ChipState) (line : ℕ) → DocFits d → ProtocolHolds d s → finished s ≡ true → (o : Owner) → o ≡ owner line s.network.ordered → IsKeptBy (chip_of d) s line o
+kept_by : (d : Doc) (s : ChipState) (line : ℕ) → DocFits d → ProtocolHolds d s → finished s ≡ true → (o : Owner) → o ≡ owner line s.network.ordered
+    → IsKeptBy (chip_of d) s line o
 kept_by d s line fits h over Memory is = tt
 kept_by d s line fits h over (Tile t) is = copy_there d s line t fits h over (sym is)
 
@@ -83,7 +86,15 @@ owners_keep d s fits h over line small =
     eq-eqb (home tile.unit.node.chip line) tile.unit.node.tile (ap (λ (chip : Chip). home chip line) holds.node.chip ∙ sym holds.node.agrees.tile) in
     let (r, here) = record_there (get_or tile.unit.node.records line None) (holds.node.fits.lines.records line within ∙ at_home) in
     let owner_is : r.owner ≡ owner line s.network.ordered = holds.serves.owns.records line r here ∙ ap (owner line) (all_delivered s tile.unit done) in
-    record { unit = tile.unit; unit_at = tile.unit_at; at_home = r; record_is = here; owner_is = owner_is; kept = kept_by d s line fits h over r.owner owner_is }
+    record {
+      unit = tile.unit;
+      unit_at = tile.unit_at;
+      at_home = r;
+      record_is = here;
+      owner_is = owner_is;
+      kept = kept_by d s line fits h over r.owner
+          owner_is;
+    }
 
 -- the final words of a line that the memory owns, and of one that a tile owns
 pub final_at_home : (chip : Chip) (s : ChipState) (line : ℕ) (k : OwnerKeeps chip s line) → k.at_home.owner ≡ Memory → final_words chip s line ≡ k.at_home.words
@@ -92,7 +103,8 @@ final_at_home chip s line k is =
     ∙ ap (λ (o : Option UnitState). unwrap_or (option_map (λ (x : UnitState). words_recorded (get_or x.node.records line None)) o) []) k.unit_at
     ∙ ap words_recorded k.record_is
 
-pub final_at_tile : (chip : Chip) (s : ChipState) (line t : ℕ) (k : OwnerKeeps chip s line) (copy : HasCopy chip s line t) → k.at_home.owner ≡ Tile t → final_words chip s line ≡ copy.held.words
+pub final_at_tile : (chip : Chip) (s : ChipState) (line t : ℕ) (k : OwnerKeeps chip s line) (copy : HasCopy chip s line t) → k.at_home.owner ≡ Tile t
+    → final_words chip s line ≡ copy.held.words
 final_at_tile chip s line t k copy is =
     ap (words_of_owner chip s line) (sym k.owner_is ∙ is)
     ∙ ap (λ (o : Option UnitState). unwrap_or (option_map (λ (x : UnitState). words_held (lookup chip x.node.side.cache line)) o) []) copy.unit_at

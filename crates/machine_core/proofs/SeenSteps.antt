@@ -71,7 +71,8 @@ chip_with network replies units accesses journal hops = record {
   hops = hops;
 }
 
-pub same_chip : (network : OrderedNetwork) (replies : Network Msg) (hops : ℕ) (u v : List UnitState) (a c : List Access) (j k : List Event) → u ≡ v → a ≡ c → j ≡ k
+pub same_chip : (network : OrderedNetwork) (replies : Network Msg) (hops : ℕ) (u v : List UnitState) (a c : List Access) (j k : List Event) → u ≡ v
+    → a ≡ c → j ≡ k
     → chip_with network replies u a j hops ≡ chip_with network replies v c k hops
 same_chip network replies hops u v a c j k units accesses journal = rw (units, accesses, journal) refl
 
@@ -102,7 +103,8 @@ left_by st fab event network replies hops access = record fab {
   hops = hops;
 }
 
-takes_by : (b : Behaviour) (st : StationState) (fab : FabricState) (event : Event) (network : OrderedNetwork) (replies : Network Msg) (hops : ℕ) (unit : UnitState) (access : Option Access)
+takes_by : (b : Behaviour) (st : StationState) (fab : FabricState) (event : Event) (network : OrderedNetwork) (replies : Network Msg) (hops : ℕ)
+    (unit : UnitState) (access : Option Access)
     → IsValid (entry_of st event) → Steps b st fab event network replies hops unit access
     → TakesChip b fab.chip event st fab (settled (record st { unit = unit })) (left_by st fab event network replies hops access)
 unfolding after
@@ -112,7 +114,8 @@ takes_by b st fab event network replies hops unit access valid steps units insid
     ∙ ap Some (same_chip network replies hops v (set units st.tile unit) (accesses_with st fab access) (accesses_with st fab access ++ []) _ _ is
     (sym (append-nil (accesses_with st fab access))) (journal_noted st fab event valid))
 
-pub done_by : (b : Behaviour) (st new : StationState) (fab new_fab : FabricState) (event : Event) (network : OrderedNetwork) (replies : Network Msg) (hops : ℕ) (unit : UnitState) (access : Option Access)
+pub done_by : (b : Behaviour) (st new : StationState) (fab new_fab : FabricState) (event : Event) (network : OrderedNetwork) (replies : Network Msg)
+    (hops : ℕ) (unit : UnitState) (access : Option Access)
     → IsValid (entry_of st event) → Steps b st fab event network replies hops unit access
     → settled (record st { unit = unit }) ≡ new → left_by st fab event network replies hops access ≡ new_fab → IsDone b event st fab new new_fab
 done_by b st new fab new_fab event network replies hops unit access valid steps same same_fab =

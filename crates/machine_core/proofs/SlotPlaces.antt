@@ -1,5 +1,6 @@
 -- Where the event of a slot stands in the list of all slots, and how long that list is.
-use Rattle.std.proofs.Common.{◌≡◌, ℕ, zero, suc, ◌+◌, ◌*◌, ◌<◌, List, [], ◌∷◌, ◌++◌, Some, length, refl, sym, ◌∙◌, ap, subst, arith, zero-mul, suc-mul, ◌/◌, div-lt_iff_lt-mul}
+use Rattle.std.proofs.Common.{◌≡◌, ℕ, zero, suc, ◌+◌, ◌*◌, ◌<◌, List, [], ◌∷◌, ◌++◌, Some, length, refl, sym, ◌∙◌, ap, subst, arith, zero-mul, suc-mul, ◌/◌}
+use Rattle.std.proofs.Common.{div-lt_iff_lt-mul}
 use Rattle.std.specs.Prelude.{slice_get, map}
 use Rattle.std.specs.List.{flat_map}
 use Rattle.std.proofs.lemmas.List.{length-append, length-map}
@@ -27,7 +28,8 @@ length_flat f each same (x ∷ xs) =
     ap length (flat_map-cons f x xs) ∙ length-append (f x) (flat_map f xs) ∙ omega (arith, same x, length_flat f each same xs, suc-mul (length xs) each)
 
 -- the place of something in the list of a place
-flat_at : {X Y : Type 0} (f : X → List Y) (each : ℕ) → AreAsLong f each → (xs : List X) (i j n : ℕ) (x : X) → slice_get xs i ≡ Some x → j < each → n ≡ i * each + j
+flat_at : {X Y : Type 0} (f : X → List Y) (each : ℕ) → AreAsLong f each → (xs : List X) (i j n : ℕ) (x : X) → slice_get xs i ≡ Some x → j < each
+    → n ≡ i * each + j
     → slice_get (flat_map f xs) n ≡ slice_get (f x) j
 flat_at f each same [] i j n x at below is = none_some x at
 flat_at f each same (z ∷ xs) zero j n x at below is =
@@ -60,7 +62,8 @@ length_upwards first (suc count) = ap suc (length_upwards (first + 1) count)
 
 -- ---- hops
 
-hops_at : (r : ℕ) (port : Port) (slot d : ℕ) (out : Port) → slice_get output_ports d ≡ Some out → slice_get (hops_from r port slot) d ≡ Some (Hop r port slot out)
+hops_at : (r : ℕ) (port : Port) (slot d : ℕ) (out : Port) → slice_get output_ports d ≡ Some out
+    → slice_get (hops_from r port slot) d ≡ Some (Hop r port slot out)
 hops_at r port slot d out at = map_at (Hop r port slot) output_ports d out at
 
 own_hops : Chip → ℕ → List Event
@@ -102,7 +105,8 @@ pub side_hop_at : (chip : Chip) (r p slot d j : ℕ) (port out : Port) → slice
 unfolding own_hops side_hops port_hops
 side_hop_at chip r p slot d j port out side below small is at =
     slice_get-append_right (own_hops chip r) (side_hops chip r) j (p * ((chip.vcs + 1) * 4) + (slot * 4 + d)) (omega (arith, is, length_own chip r))
-    ∙ flat_at (port_hops chip r) ((chip.vcs + 1) * 4) (length_port chip r) output_ports p (slot * 4 + d) (p * ((chip.vcs + 1) * 4) + (slot * 4 + d)) port side (omega arith) refl
+    ∙ flat_at (port_hops chip r) ((chip.vcs + 1) * 4) (length_port chip r) output_ports p (slot * 4 + d) (p * ((chip.vcs + 1) * 4) +
+    (slot * 4 + d)) port side (omega arith) refl
     ∙ flat_at (hops_from r port) 4 (λ slot. refl) (upwards 0 (chip.vcs + 1)) slot d (slot * 4 + d) slot (number_at (chip.vcs + 1) slot below) small refl
     ∙ hops_at r port slot d out at
 
@@ -119,7 +123,8 @@ length_reply : (chip : Chip) (event : Port → ℕ → Event) → length (reply_
 unfolding replies_of
 length_reply chip event = length_flat (replies_of chip event) chip.data_vcs (length_replies chip event) ports
 
-pub reply_at : (chip : Chip) (event : Port → ℕ → Event) (p slot j : ℕ) (port : Port) → slice_get ports p ≡ Some port → slot < chip.data_vcs → j ≡ p * chip.data_vcs + slot
+pub reply_at : (chip : Chip) (event : Port → ℕ → Event) (p slot j : ℕ) (port : Port) → slice_get ports p ≡ Some port → slot < chip.data_vcs
+    → j ≡ p * chip.data_vcs + slot
     → slice_get (reply_events chip event) j ≡ Some (event port slot)
 unfolding replies_of
 reply_at chip event p slot j port at below is =
@@ -139,7 +144,11 @@ pub own_slot_at : (chip : Chip) (t j : ℕ) (event : Event) → j < 6 → slice_
 own_slot_at chip t j event below at =
     slice_get-append_left (own_events t ++ router_hops chip t ++ reply_events chip (DataHop t)) (reply_events chip (DataEject t)) j
     (omega (arith, length-append (own_events t ++ router_hops chip t) (reply_events chip (DataHop t)), length-append (own_events t) (router_hops chip t)))
-    ∙ slice_get-append_left (own_events t ++ router_hops chip t) (reply_events chip (DataHop t)) j (omega (arith, length-append (own_events t) (router_hops chip t)))
+    ∙ slice_get-append_left (own_events t ++ router_hops chip t) (reply_events chip (DataHop t)) j (omega (
+      arith,
+      length-append (own_events t)
+          (router_hops chip t),
+    ))
     ∙ slice_get-append_left (own_events t) (router_hops chip t) j below
     ∙ at
 
@@ -147,24 +156,61 @@ pub hop_slot_at : (chip : Chip) (t j k : ℕ) (event : Event) → j ≡ 6 + k �
     → slice_get (tile_slots chip t) j ≡ Some event
 hop_slot_at chip t j k event is below at =
     slice_get-append_left (own_events t ++ router_hops chip t ++ reply_events chip (DataHop t)) (reply_events chip (DataEject t)) j
-    (omega (arith, is, length_hops chip t, length-append (own_events t ++ router_hops chip t) (reply_events chip (DataHop t)), length-append (own_events t) (router_hops chip t)))
-    ∙ slice_get-append_left (own_events t ++ router_hops chip t) (reply_events chip (DataHop t)) j (omega (arith, is, length_hops chip t, length-append (own_events t) (router_hops chip t)))
+    (omega (
+      arith,
+      is,
+      length_hops chip t,
+      length-append (own_events t ++ router_hops chip t) (reply_events chip (DataHop t)),
+      length-append
+          (own_events t) (router_hops chip t),
+    ))
+    ∙ slice_get-append_left (own_events t ++ router_hops chip t) (reply_events chip (DataHop t)) j (omega (
+      arith,
+      is,
+      length_hops chip t,
+      length-append
+          (own_events t) (router_hops chip t),
+    ))
     ∙ slice_get-append_right (own_events t) (router_hops chip t) j k is
     ∙ at
 
-pub data_hop_slot_at : (chip : Chip) (t j k : ℕ) (event : Event) → j ≡ 22 + 20 * chip.vcs + k → k < 5 * chip.data_vcs → slice_get (reply_events chip (DataHop t)) k ≡ Some event
+pub data_hop_slot_at : (chip : Chip) (t j k : ℕ) (event : Event) → j ≡ 22 + 20 * chip.vcs + k → k < 5 * chip.data_vcs
+    → slice_get (reply_events chip (DataHop t)) k ≡ Some event
     → slice_get (tile_slots chip t) j ≡ Some event
 data_hop_slot_at chip t j k event is below at =
     slice_get-append_left (own_events t ++ router_hops chip t ++ reply_events chip (DataHop t)) (reply_events chip (DataEject t)) j
-    (omega (arith, is, length_hops chip t, length_reply chip (DataHop t), length-append (own_events t ++ router_hops chip t) (reply_events chip (DataHop t)), length-append (own_events t) (router_hops chip t)))
-    ∙ slice_get-append_right (own_events t ++ router_hops chip t) (reply_events chip (DataHop t)) j k (omega (arith, is, length_hops chip t, length-append (own_events t) (router_hops chip t)))
+    (omega (
+      arith,
+      is,
+      length_hops chip t,
+      length_reply chip (DataHop t),
+      length-append (own_events t ++ router_hops chip t) (reply_events chip
+          (DataHop t)),
+      length-append (own_events t) (router_hops chip t),
+    ))
+    ∙ slice_get-append_right (own_events t ++ router_hops chip t) (reply_events chip (DataHop t)) j k (omega (
+      arith,
+      is,
+      length_hops chip t,
+      length-append
+          (own_events t) (router_hops chip t),
+    ))
     ∙ at
 
-pub data_eject_slot_at : (chip : Chip) (t j k : ℕ) (event : Event) → j ≡ 22 + 20 * chip.vcs + 5 * chip.data_vcs + k → slice_get (reply_events chip (DataEject t)) k ≡ Some event
+pub data_eject_slot_at : (chip : Chip) (t j k : ℕ) (event : Event) → j ≡ 22 + 20 * chip.vcs + 5 * chip.data_vcs + k
+    → slice_get (reply_events chip (DataEject t)) k ≡ Some event
     → slice_get (tile_slots chip t) j ≡ Some event
 data_eject_slot_at chip t j k event is at =
     slice_get-append_right (own_events t ++ router_hops chip t ++ reply_events chip (DataHop t)) (reply_events chip (DataEject t)) j k
-    (omega (arith, is, length_hops chip t, length_reply chip (DataHop t), length-append (own_events t ++ router_hops chip t) (reply_events chip (DataHop t)), length-append (own_events t) (router_hops chip t)))
+    (omega (
+      arith,
+      is,
+      length_hops chip t,
+      length_reply chip (DataHop t),
+      length-append (own_events t ++ router_hops chip t) (reply_events chip
+          (DataHop t)),
+      length-append (own_events t) (router_hops chip t),
+    ))
     ∙ at
 
 -- ---- all slots
@@ -172,19 +218,22 @@ data_eject_slot_at chip t j k event is at =
 pub length_slots : (chip : Chip) → length (slots chip) ≡ slot_count chip
 unfolding slots
 length_slots chip =
-    ap suc (length_flat (tile_slots chip) (slots_per_tile chip) (length_tile chip) (upwards 0 (tile_count chip)) ∙ ap (λ n. n * slots_per_tile chip) (length_upwards 0 (tile_count chip)))
+    ap suc (length_flat (tile_slots chip) (slots_per_tile chip) (length_tile chip) (upwards 0 (tile_count chip))
+    ∙ ap (λ n. n * slots_per_tile chip) (length_upwards 0 (tile_count chip)))
     ∙ omega arith
 
 pub tick_at : (chip : Chip) → slice_get (slots chip) 0 ≡ Some Tick
 unfolding slots
 tick_at chip = refl
 
-pub tile_slot_at : (chip : Chip) (t j k : ℕ) (event : Event) → t < tile_count chip → j < slots_per_tile chip → k ≡ suc (t * slots_per_tile chip + j) → slice_get (tile_slots chip t) j ≡ Some event
+pub tile_slot_at : (chip : Chip) (t j k : ℕ) (event : Event) → t < tile_count chip → j < slots_per_tile chip → k ≡ suc (t * slots_per_tile chip + j)
+    → slice_get (tile_slots chip t) j ≡ Some event
     → slice_get (slots chip) k ≡ Some event
 unfolding slots
 tile_slot_at chip t j k event inside below is at =
     subst (λ (n : ℕ). slice_get (slots chip) n ≡ Some event) (sym is)
-    (flat_at (tile_slots chip) (slots_per_tile chip) (length_tile chip) (upwards 0 (tile_count chip)) t j (t * slots_per_tile chip + j) t (number_at (tile_count chip) t inside) below refl ∙ at)
+    (flat_at (tile_slots chip) (slots_per_tile chip) (length_tile chip) (upwards 0 (tile_count chip)) t j (t * slots_per_tile chip + j) t (number_at
+    (tile_count chip) t inside) below refl ∙ at)
 
 -- a number below n times a size is in one of the first n pieces of that size
 pub quotient_below : (k n each : ℕ) → 0 < each → k < n * each → k / each < n

@@ -42,13 +42,17 @@ tile_all chip t =
 
     hops : AllByRecursion (λ e. tile_of e ≡ t) (router_hops chip t)
     hops =
-        all_append (λ e. tile_of e ≡ t) (flat_map (hops_from t L) (upwards 0 chip.vcs)) (flat_map (λ port. flat_map (hops_from t port) (upwards 0 (chip.vcs + 1))) output_ports)
+        all_append (λ e. tile_of e ≡ t) (flat_map (hops_from t L) (upwards 0 chip.vcs)) (flat_map
+        (λ port. flat_map (hops_from t port) (upwards 0 (chip.vcs + 1))) output_ports)
         (all_flat (λ e. tile_of e ≡ t) (hops_from t L) (from L) (upwards 0 chip.vcs))
-        (all_flat (λ e. tile_of e ≡ t) (λ port. flat_map (hops_from t port) (upwards 0 (chip.vcs + 1))) (λ port. all_flat (λ e. tile_of e ≡ t) (hops_from t port) (from port) (upwards 0 (chip.vcs + 1))) output_ports)
+        (all_flat (λ e. tile_of e ≡ t) (λ port. flat_map (hops_from t port) (upwards 0 (chip.vcs + 1))) (λ port. all_flat
+        (λ e. tile_of e ≡ t) (hops_from t port) (from port) (upwards 0 (chip.vcs + 1))) output_ports)
 
-    replies : (event : Port → ℕ → Event) → ((port : Port) (slot : ℕ) → tile_of (event port slot) ≡ t) → AllByRecursion (λ e. tile_of e ≡ t) (reply_events chip event)
+    replies : (event : Port → ℕ → Event) → ((port : Port) (slot : ℕ) → tile_of (event port slot) ≡ t)
+        → AllByRecursion (λ e. tile_of e ≡ t) (reply_events chip event)
     replies event is =
-        all_flat (λ e. tile_of e ≡ t) (λ port. map (event port) (upwards 0 chip.data_vcs)) (λ port. all_map (λ e. tile_of e ≡ t) (event port) (is port) (upwards 0 chip.data_vcs)) ports
+        all_flat (λ e. tile_of e ≡ t) (λ port. map (event port) (upwards 0 chip.data_vcs)) (λ port. all_map
+        (λ e. tile_of e ≡ t) (event port) (is port) (upwards 0 chip.data_vcs)) ports
 
 all_weaken : {X : Type 0} (P Q : X → Type 0) → ((x : X) → P x → Q x) → (xs : List X) → AllByRecursion P xs → AllByRecursion Q xs
 all_weaken P Q each [] all = tt
@@ -74,4 +78,8 @@ all_contained {X} P xs x all has = by xs has.0 all has.1 has.2
 pub slot_tile : (chip : Chip) (e : Event) → 0 < tile_count chip → Contains (slots chip) e → tile_of e < tile_count chip
 unfolding slots
 slot_tile chip e some has =
-    all_contained (λ e. tile_of e < tile_count chip) (Tick ∷ flat_map (tile_slots chip) (upwards 0 (tile_count chip))) e (some, tiles_all chip (tile_count chip) 0 (tile_count chip) (omega arith)) has
+    all_contained (λ e. tile_of e < tile_count chip) (Tick ∷ flat_map (tile_slots chip) (upwards 0 (tile_count chip))) e (
+      some,
+      tiles_all chip
+          (tile_count chip) 0 (tile_count chip) (omega arith),
+    ) has

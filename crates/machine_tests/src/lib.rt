@@ -1,7 +1,9 @@
-//! Tests of the public calls of units and of the fabric.
+//! Tests of the public calls of units, of the fabric and of the machine.
 #![tactic(auto)]
 
 #[cfg(test)]
 mod fabrics;
+#[cfg(test)]
+mod machines;
 #[cfg(test)]
 mod units;

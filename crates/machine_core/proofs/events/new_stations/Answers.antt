@@ -22,8 +22,10 @@ pub loop-t-preserved : goal.loop-t-preserved
 loop-t-preserved g c =
     let document = c.args.document.now in
     let below : c.loop-t.t < length document.programs = omega (arith, c.loop-t-test.true, c.tiles-t-end.ensures.tiles, document.programs_limit) in
-    let made = station_opened document c.loop-t.t c.from-in-loop-t.result c.in_ok-open.field-0 c.in_ok-program.program c.index-programs-from.result c.as_slice-programs.result.now c.as_slice-memory.result.now
-    c.in_ok-open.ensures c.in_ok-program.ensures c.index-programs-from.is c.as_slice-programs.ensures c.from-in-loop-t.ensures c.as_slice-memory.ensures below in (
+    let made = station_opened document c.loop-t.t c.from-in-loop-t.result c.in_ok-open.field-0 c.in_ok-program.program c.index-programs-from.result
+    c.as_slice-programs.result.now c.as_slice-memory.result.now
+    c.in_ok-open.ensures c.in_ok-program.ensures c.index-programs-from.is c.as_slice-programs.ensures c.from-in-loop-t.ensures c.as_slice-memory.ensures
+    below in (
       c.push_reserved.ensures.items
           ∙ ap (λ (list : List StationState). list ++ c.in_ok-open.field-0 ∷ []) c.loop-t.invariant.0
           ∙ ap (λ (st : StationState). map (opening_station (doc_of document)) (upwards 0 c.loop-t.t) ++ st ∷ []) made

@@ -8,4 +8,5 @@ use Rattle.machine_core.specs.Stations.{opening_station}
 use Rattle.machine_core.proofs.events.new_stations.Given as goal
 
 abbrev pub invariant-loop-t : goal.invariant-loop-t
-invariant-loop-t g l = (l.stations.items ≡ map (opening_station (doc_of l.fn.document)) (upwards 0 l.t)) × (tiles (grid l.fn.document.mesh) ≤ vec_capacity l.stations)
+invariant-loop-t g l = (l.stations.items ≡ map (opening_station (doc_of l.fn.document)) (upwards 0 l.t))
+    × (tiles (grid l.fn.document.mesh) ≤ vec_capacity l.stations)

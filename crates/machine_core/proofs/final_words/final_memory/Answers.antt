@@ -18,7 +18,8 @@ loop-line-preserved g c =
       room = omega (arith, c.push_words.ensures.room, c.loop-line.invariant.room);
       words = λ s units keeps.
           c.push_words.ensures.words
-          ∙ ap (λ (words : Option (List ℕ)). c.loop-line.memory.items ++ unwrap_or words (0 ∷ 0 ∷ 0 ∷ 0 ∷ [])) (c.line_words.ensures s units (keeps line c.loop-line-test.true))
+          ∙ ap (λ (words : Option (List ℕ)). c.loop-line.memory.items ++ unwrap_or words (0 ∷ 0 ∷ 0 ∷ 0 ∷ [])) (c.line_words.ensures s units
+          (keeps line c.loop-line-test.true))
           ∙ ap (λ (list : List ℕ). list ++ final_words chip s line) (c.loop-line.invariant.words s units keeps)
           ∙ sym (flat_more (final_words chip s) line);
     }

@@ -12,5 +12,6 @@ abbrev pub invariant-loop-line : goal.invariant-loop-line
 invariant-loop-line g l = record {
   count : length l.memory.items ≡ 4 * l.line;
   room : 4 * l.fn.mesh.lines ≤ vec_capacity l.memory;
-  words : (s : ChipState) → s.units ≡ units_of l.fn.stations → EachOwnerKeeps (chip_of_mesh l.fn.mesh) s → l.memory.items ≡ flat_map (final_words (chip_of_mesh l.fn.mesh) s) (upwards 0 l.line);
+  words : (s : ChipState) → s.units ≡ units_of l.fn.stations → EachOwnerKeeps (chip_of_mesh l.fn.mesh) s
+      → l.memory.items ≡ flat_map (final_words (chip_of_mesh l.fn.mesh) s) (upwards 0 l.line);
 }

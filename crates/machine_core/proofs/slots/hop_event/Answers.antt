@@ -16,4 +16,12 @@ returns-else-channel-vcs c =
     let below : rest % each < each = mod-lt rest (omega arith) in
     side_hop_at (chip_of_mesh c.args.mesh.now) c.args.r (rest / each) (rest % each) (c.args.j % 4) c.args.j c.side.result c.side-out.result
     c.side.ensures (omega (arith, below, c.from-vcs.ensures)) (omega arith)
-    (omega (arith, parts, c.from-vcs.ensures, c.if-channel-vcs.false, ap (λ n. rest / each * ((n + 1) * 4)) (sym c.from-vcs.ensures), mul_assoc (rest / each) each 4)) c.side-out.ensures
+    (omega (
+      arith,
+      parts,
+      c.from-vcs.ensures,
+      c.if-channel-vcs.false,
+      ap
+          (λ n. rest / each * ((n + 1) * 4)) (sym c.from-vcs.ensures),
+      mul_assoc (rest / each) each 4,
+    )) c.side-out.ensures

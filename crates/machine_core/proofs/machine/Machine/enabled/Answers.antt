@@ -14,7 +14,8 @@ returns-then-at-len g c =
     let laws = c.kind_laws.ensures in
     let holds = rw (← c.self.view_is) at (c.laws.ensures.holds laws) in
     rw (← c.self.view_is) (no_tile b laws d (chip_state fab (units_of stations)) c.args.e holds
-    (tiles_some (chip_of d).grid c.self.invariant.within.fits.chip.tiles) (omega (arith, c.if-at-len.true, c.from-at.ensures, c.tile_of.ensures, c.len.ensures, c.self.inside.stations.ok.0, units_counted stations)))
+    (tiles_some (chip_of d).grid c.self.invariant.within.fits.chip.tiles) (omega
+    (arith, c.if-at-len.true, c.from-at.ensures, c.tile_of.ensures, c.len.ensures, c.self.inside.stations.ok.0, units_counted stations)))
 
 pub can_act-requires-clause-event : goal.can_act-requires-clause-event
 can_act-requires-clause-event g c κs lives =

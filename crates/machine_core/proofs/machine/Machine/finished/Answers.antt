@@ -12,7 +12,8 @@ returns-then-idle g c =
     let quiet = rw (← c.self.view_is) at c.all_quiet.ensures in
     let idle = sym c.if-idle.true ∙ c.idle.ensures in
     let idle_is = rw c.deref.ensures at idle in
-    rw (← c.self.view_is) (quiet ∙ ap (λ all. all && list_all is_quiet (units_of c.self.inside.stations.items)) idle_is ∙ finished_is c.self.inside.rest (chip_state c.self.inside.fabric.value (units_of c.self.inside.stations.items)) holds.protocol)
+    rw (← c.self.view_is) (quiet ∙ ap (λ all. all && list_all is_quiet (units_of c.self.inside.stations.items)) idle_is
+    ∙ finished_is c.self.inside.rest (chip_state c.self.inside.fabric.value (units_of c.self.inside.stations.items)) holds.protocol)
 
 pub returns-else-idle : goal.returns-else-idle
 returns-else-idle g c =
@@ -20,4 +21,5 @@ returns-else-idle g c =
     let holds = rw (← c.self.view_is) at (c.laws.ensures.holds laws) in
     let idle = sym c.idle.ensures ∙ c.if-idle.false in
     let idle_is = rw c.deref.ensures at idle in
-    rw (← c.self.view_is) (c.if-idle.false ∙ not_finished c.self.inside.rest (chip_state c.self.inside.fabric.value (units_of c.self.inside.stations.items)) holds.protocol idle_is)
+    rw (← c.self.view_is) (c.if-idle.false ∙ not_finished c.self.inside.rest (chip_state c.self.inside.fabric.value
+    (units_of c.self.inside.stations.items)) holds.protocol idle_is)

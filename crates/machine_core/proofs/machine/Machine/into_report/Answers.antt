@@ -42,6 +42,8 @@ returns g c =
     c.new.ensures ∙ c.steps_done.ensures ∙ ap (map (λ (station : StationState). station.unit.core.steps)) c.deref-2.ensures.value in
     let memory : c.new-2.result ≡ (if is_finished then final_memory d s else []) =
     c.new-2.ensures
-    ∙ c.final_memory-memory.ensures s (ap units_of (sym c.deref.ensures.value)) (λ done. subst (λ (x : Doc). EachOwnerKeeps (chip_of x) s) (sym same) (owners (sym over ∙ done)))
+    ∙ c.final_memory-memory.ensures s (ap units_of (sym c.deref.ensures.value)) (λ done. subst
+    (λ (x : Doc). EachOwnerKeeps (chip_of x) s) (sym same) (owners (sym over ∙ done)))
     ∙ ap (λ (x : Doc). if is_finished then flat_map (final_words (chip_of x) s) (upwards 0 x.lines) else []) same in
-    rw (← c.self.view_is) (report_is d fab stations c.into_lists-lists.result is_finished c.new.result c.new-2.result c.finish_of.result holds.protocol over lists steps memory c.finish_of.ensures)
+    rw (← c.self.view_is) (report_is d fab stations c.into_lists-lists.result is_finished c.new.result c.new-2.result c.finish_of.result holds.protocol
+    over lists steps memory c.finish_of.ensures)

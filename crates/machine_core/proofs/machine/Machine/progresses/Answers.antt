@@ -5,12 +5,14 @@ use Rattle.machine_core.proofs.machine.Machine.progresses.Goals as goal
 pub returns-clause-moves : goal.returns-clause-moves
 returns-clause-moves g c =
     let laws = c.kind_laws.ensures in
-    c.chip_progress_laws.ensures.never_stuck g.U.Unit.behaviour laws c.args.self.now.document c.args.self.now.state c.laws.ensures.within.fits (c.laws.ensures.holds laws)
+    c.chip_progress_laws.ensures.never_stuck g.U.Unit.behaviour laws c.args.self.now.document c.args.self.now.state c.laws.ensures.within.fits
+    (c.laws.ensures.holds laws)
 
 pub returns-clause-stops : goal.returns-clause-stops
 returns-clause-stops g c =
     let laws = c.kind_laws.ensures in
-    c.chip_progress_laws.ensures.stops g.U.Unit.behaviour laws c.args.self.now.document c.args.self.now.state c.laws.ensures.within.fits (c.laws.ensures.holds laws)
+    c.chip_progress_laws.ensures.stops g.U.Unit.behaviour laws c.args.self.now.document c.args.self.now.state c.laws.ensures.within.fits
+    (c.laws.ensures.holds laws)
 
 pub returns-clause-slots : goal.returns-clause-slots
 returns-clause-slots g c =

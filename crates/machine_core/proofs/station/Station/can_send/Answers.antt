@@ -7,10 +7,24 @@ use Rattle.machine_core.proofs.station.Station.can_send.Goals as goal
 
 pub returns-in-Some : goal.returns-in-Some
 returns-in-Some g c =
-    let st : StationState = record { tile = c.self.inside.tile; unit = g.U.Unit.meaning c.self.inside.unit; cores = c.self.inside.cores; accesses = c.self.inside.accesses.items } in
-    rw (c.can_send.ensures, c.made.ensures, ← c.self.view_is) (send_told g.U.Unit.behaviour st c.args.fabric.now c.in-Some.msg (ap (λ (n : Node). slice_get n.out 0) (sym c.node.ensures) ∙ sym c.next_out.ensures ∙ c.in-Some.is))
+    let st : StationState = record {
+      tile = c.self.inside.tile;
+      unit = g.U.Unit.meaning c.self.inside.unit;
+      cores = c.self.inside.cores;
+      accesses =
+          c.self.inside.accesses.items;
+    } in
+    rw (c.can_send.ensures, c.made.ensures, ← c.self.view_is) (send_told g.U.Unit.behaviour st c.args.fabric.now c.in-Some.msg (ap
+    (λ (n : Node). slice_get n.out 0) (sym c.node.ensures) ∙ sym c.next_out.ensures ∙ c.in-Some.is))
 
 pub returns-in-None : goal.returns-in-None
 returns-in-None g c =
-    let st : StationState = record { tile = c.self.inside.tile; unit = g.U.Unit.meaning c.self.inside.unit; cores = c.self.inside.cores; accesses = c.self.inside.accesses.items } in
-    rw (← c.self.view_is) (empty_told g.U.Unit.behaviour st c.args.fabric.now (ap (λ (n : Node). slice_get n.out 0) (sym c.node.ensures) ∙ sym c.next_out.ensures ∙ c.in-None.is))
+    let st : StationState = record {
+      tile = c.self.inside.tile;
+      unit = g.U.Unit.meaning c.self.inside.unit;
+      cores = c.self.inside.cores;
+      accesses =
+          c.self.inside.accesses.items;
+    } in
+    rw (← c.self.view_is) (empty_told g.U.Unit.behaviour st c.args.fabric.now (ap (λ (n : Node). slice_get n.out 0) (sym c.node.ensures)
+    ∙ sym c.next_out.ensures ∙ c.in-None.is))

@@ -10,7 +10,8 @@ use Rattle.machine_core.proofs.station.Station.tick.Goals as goal
 
 pub tick-requires : goal.tick-requires
 tick-requires g c =
-    subst (λ (who : Made). MayNote who c.args.fabric.now) (sym c.made.ensures) (may_note LIST_PLACES QUEUE_PLACES c.args.self.now c.args.fabric.now c.requires.meets c.requires.room)
+    subst (λ (who : Made). MayNote who c.args.fabric.now) (sym c.made.ensures)
+    (may_note LIST_PLACES QUEUE_PLACES c.args.self.now c.args.fabric.now c.requires.meets c.requires.room)
 
 pub returns-in_err-tick-clause-err : goal.returns-in_err-tick-clause-err
 returns-in_err-tick-clause-err g c =
