@@ -1,0 +1,2 @@
+pub mod ForwardPrograms
+pub mod SweptSlots
