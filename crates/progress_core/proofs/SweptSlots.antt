@@ -1,6 +1,6 @@
 -- What is left of a sweep after each slot, and that a sweep in two parts goes through all slots once.
 use Rattle.std.proofs.Common.{◌≡◌, ℕ, zero, suc, ◌+◌, ◌-◌, ◌<◌, ◌≤◌, Bool, true, false, List, [], ◌∷◌, ◌++◌, length, take, drop, length-append, Option, Some, None, refl, sym, ◌∙◌, ap, subst, arith}
-use Rattle.std.specs.Prelude.{◌==◌, ◌||◌, slice_get, is_some, unwrap_or, if◌then◌else◌}
+use Rattle.std.specs.Prelude.{◌==◌, ◌||◌, slice_get, is_some, unwrap_or, if◌then◌else◌, Result, Ok, Err, OnOk, OnErr}
 use Rattle.std.proofs.lemmas.Bool.{eq-eqb, ne_eqb, true≢false}
 use Rattle.std.proofs.lemmas.List.{take_all}
 use Rattle.std.proofs.lemmas.Option.{slice_get_within}
@@ -11,7 +11,7 @@ use Rattle.chip_model.specs.Units.{Behaviour}
 use Rattle.chip_model.specs.ChipState.{ChipState, finished}
 use Rattle.chip_model.specs.Events.{step}
 use Rattle.chip_model.specs.Runs.{noted, after, enabled}
-use Rattle.chip_model.specs.Schedules.{ends, tried, swept, from_offset}
+use Rattle.chip_model.specs.Schedules.{slots, ends, tried, swept, sweeps, from_offset, AllAreMade}
 use Rattle.progress_core.specs.Events.{events_between}
 
 -- ---- the slots that are left
@@ -85,3 +85,41 @@ module _ (b : Behaviour) (chip : Chip) (budget : ℕ) where
           swept_ended s (event ∷ []) (ap (λ (end : Bool). end || finished s) unspent ∙ over)
           ∙ sym (ap (λ (next : Option ChipState). unwrap_or next s) (refused s event (stops over)))
       by false over = ap (λ (end : Bool). if end then s else tried b chip s event) (ap (λ (end : Bool). end || finished s) unspent ∙ over)
+
+  -- ---- a step that may be refused
+  one_tried : (s new : ChipState) (event : Event) (step : Option ChipState) → after b chip s event ≡ step → unwrap_or step s ≡ new → tried b chip s event ≡ new
+  one_tried s new event step is gives = ap (λ (next : Option ChipState). unwrap_or next s) is ∙ gives
+
+  pub stepped_one : {X E : Type 0} (s new : ChipState) (event : Event) (answer : Result X E) → length s.journal < budget → (finished s ≡ true → enabled b chip s event ≡ false)
+      → OnOk answer (after b chip s event ≡ Some new) → OnErr answer (after b chip s event ≡ None) → OnErr answer (new ≡ s) → new ≡ swept b chip budget s (event ∷ [])
+  stepped_one s new event (Ok x) less stops done none kept = sym (tried_one s event less stops ∙ one_tried s new event (Some new) done refl)
+  stepped_one s new event (Err e) less stops done none kept = kept ∙ sym (tried_one s event less stops ∙ one_tried s s event None none refl)
+
+  pub stepped_within : {X E : Type 0} (s new : ChipState) (event : Event) (answer : Result X E) → length s.journal < budget
+      → OnOk answer (new.journal ≡ s.journal ++ event ∷ []) → OnErr answer (new ≡ s) → length new.journal ≤ budget
+  stepped_within s new event (Ok x) less noted kept = omega (arith, less, ap length noted, length-append s.journal (event ∷ []))
+  stepped_within s new event (Err e) less noted kept = omega (arith, less, ap (λ (x : ChipState). length x.journal) kept)
+
+-- ---- sweep after sweep
+-- one more sweep
+pub sweeps_more : (b : Behaviour) (chip : Chip) (budget : ℕ) (s last : ChipState) (offsets : List ℕ) (offset : ℕ) → sweeps b chip budget s offsets ≡ last → AllAreMade b chip budget s offsets
+    → ends budget last ≡ false → sweeps b chip budget s (offsets ++ offset ∷ []) ≡ swept b chip budget last (from_offset (slots chip) offset)
+unfolding sweeps
+sweeps_more b chip budget s last [] offset is made goes =
+    ap (λ (end : Bool). if end then s else swept b chip budget s (from_offset (slots chip) offset)) (ap (ends budget) is ∙ goes)
+    ∙ ap (λ (x : ChipState). swept b chip budget x (from_offset (slots chip) offset)) is
+sweeps_more b chip budget s last (first ∷ offsets) offset is made goes =
+    let next = swept b chip budget s (from_offset (slots chip) first) in
+    let rest : sweeps b chip budget next offsets ≡ last = sym (ap (λ (end : Bool). if end then s else sweeps b chip budget next offsets) made.0) ∙ is in
+    ap (λ (end : Bool). if end then s else sweeps b chip budget next (offsets ++ offset ∷ [])) made.0
+    ∙ sweeps_more b chip budget next last offsets offset rest made.1 goes
+
+-- which is made
+pub made_more : (b : Behaviour) (chip : Chip) (budget : ℕ) (s last : ChipState) (offsets : List ℕ) (offset : ℕ) → sweeps b chip budget s offsets ≡ last → AllAreMade b chip budget s offsets
+    → ends budget last ≡ false → AllAreMade b chip budget s (offsets ++ offset ∷ [])
+unfolding sweeps
+made_more b chip budget s last [] offset is made goes = (ap (ends budget) is ∙ goes, record {})
+made_more b chip budget s last (first ∷ offsets) offset is made goes =
+    let next = swept b chip budget s (from_offset (slots chip) first) in
+    let rest : sweeps b chip budget next offsets ≡ last = sym (ap (λ (end : Bool). if end then s else sweeps b chip budget next offsets) made.0) ∙ is in
+    (made.0, made_more b chip budget next last offsets offset rest made.1 goes)

@@ -3,6 +3,10 @@
 
 mod bounds;
 mod forward;
+mod pacing;
+mod sweeping;
 
 pub use bounds::bound;
 pub use forward::forward_only;
+pub use pacing::run_paced;
+pub use sweeping::sweep;
