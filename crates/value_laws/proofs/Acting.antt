@@ -1,5 +1,5 @@
 -- A tile performs an access: what the access stands on, where it hits and where it completes a demand.
-use Rattle.std.proofs.Common.{◌≡◌, ℕ, ◌+◌, ◌<◌, true, false, Some, List, take, sym, ap, ◌∙◌, refl, subst, inl, inr, arith}
+use Rattle.std.proofs.Common.{◌≡◌, ℕ, ◌+◌, ◌<◌, ◌⊎◌, true, false, Some, List, take, sym, ap, ◌∙◌, refl, subst, inl, inr, arith}
 use Rattle.std.specs.Prelude.{slice_get, slice_index}
 use Rattle.std.specs.List.{AllByRecursion}
 use Rattle.std.proofs.lemmas.Bool.{cases_eq, cases_lt, cases_order, le-leb, lt-leb}
@@ -21,7 +21,8 @@ use Rattle.chip_model.specs.Witness.{is_before, is_write, line_value}
 use Rattle.chip_model.specs.Writers.{IsSettled, OthersSettled}
 use Rattle.chip_model.specs.ChipInvariant.{ProtocolHolds}
 use Rattle.chip_laws.proofs.Each.{each_from}
-use Rattle.value_laws.specs.Sequences.{Follows}
+use Rattle.value_laws.specs.Sequences.{Succeeds}
+use Rattle.value_laws.proofs.Sequences.{before_time, all_succeed}
 use Rattle.value_laws.proofs.LineValues.{Counts}
 use Rattle.value_laws.proofs.Passing.{wrote, next_settled}
 use Rattle.value_laws.proofs.OnlyWriters.{Only, only_getm, only_gets}
@@ -33,7 +34,7 @@ use Rattle.value_laws.proofs.CompletedCopies.{asks_write}
 -- its own tile had none to come.
 pub record ActsOn (d : Doc) (s : ChipState) (t : ℕ) (unit : UnitState) (a : Access) (place : ℕ) (words : List ℕ) : Type 0 where
   pub tile : a.tile ≡ t
-  pub follows : AllByRecursion (λ b. Follows b a) s.accesses
+  pub follows : AllByRecursion (λ b. Succeeds b a) s.accesses
   pub counts : AllByRecursion (Counts (line_of a.address) place (λ b. is_before b a)) s.accesses
   pub value : words ≡ line_value d s.accesses (line_of a.address) place
   pub reads : reads a.kind ≡ true → read_by a ≡ slice_index words (word_of a.address)
@@ -50,20 +51,21 @@ received_word access Add unit time number words is reads_it = rw is refl
 
 -- ---- accesses by time
 
-pub before_time : (a b : Access) → a.time < b.time → is_before a b ≡ true
-before_time a b less = grind (arith, nat_tests)
-
 pub behind_time : (a b : Access) → b.time < a.time → is_before a b ≡ false
 behind_time a b less = grind (arith, nat_tests)
 
 -- the writes up to the time of an access are those before it, where those at its time are its own tile's
-pub counts_here : (line : ℕ) (a b : Access) → Follows b a → (is_write b ≡ true → line_of b.address ≡ line → b.time ≡ a.time → b.tile ≡ a.tile)
+pub counts_here : (line : ℕ) (a b : Access) → Succeeds b a → (is_write b ≡ true → line_of b.address ≡ line → b.time ≡ a.time → b.tile ≡ a.tile)
     → Counts line a.time (λ c. is_before c a) b
 counts_here line a b follows own write here = elim (cases_order b.time a.time) [
-  | inl same ↦ follows (own write here same) ∙ sym (le-leb b.time a.time (omega arith))
+  | inl same ↦ first (follows (own write here same)) write ∙ sym (le-leb b.time a.time (omega arith))
   | inr (inl less) ↦ before_time b a less ∙ sym (le-leb b.time a.time (omega arith))
   | inr (inr more) ↦ behind_time b a more ∙ sym (lt-leb b.time a.time more)
 ]
+  where
+    first : (is_before b a ≡ true) ⊎ ((is_before a b ≡ true) × (is_write b ≡ false)) → is_write b ≡ true → is_before b a ≡ true
+    first (inl before) writes_it = before
+    first (inr second) writes_it = let e : true ≡ false = sym writes_it ∙ second.1 in cc
 
 -- those up to the place before its time are, where none has its time
 counts_behind : (line place : ℕ) (a b : Access) → a.time ≡ place + 1 → (is_write b ≡ true → line_of b.address ≡ line → b.time ≡ place + 1 → ⊥)
@@ -105,7 +107,7 @@ module _ (d : Doc) (s new : ChipState) (t : ℕ) (unit after : UnitState) (holds
   pub completion_acts : ActsOn d s t unit is.access is.place is.words
   completion_acts = record {
     tile = is.tile;
-    follows = follows d s new t unit after holds is;
+    follows = all_succeed is.access s.accesses (follows d s new t unit after holds is);
     counts = each_from (Counts line is.place (λ b. is_before b is.access)) s.accesses
         (λ i b at. counts_behind line is.place is.access b is.time (never i b at));
     value = subst (λ (l : ℕ). is.words ≡ line_value d s.accesses l is.place) (sym (at_line d s new t unit after holds is)) is.has.value;

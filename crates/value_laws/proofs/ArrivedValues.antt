@@ -22,7 +22,7 @@ use Rattle.chip_model.specs.Values.{HasValue, CopyHasValue, place_of_demand, pla
 use Rattle.chip_laws.specs.EventSteps.{ChangesUnit}
 use Rattle.chip_laws.proofs.SuppliedEvents.{unit_holds}
 use Rattle.supply_laws.proofs.GetPlaces.{at_waits}
-use Rattle.value_laws.specs.Sequences.{AreRising}
+use Rattle.value_laws.specs.Sequences.{AreSucceeding}
 use Rattle.value_laws.proofs.Completion.{Completion, CompletesBy, value_elsewhere}
 use Rattle.value_laws.proofs.CompletedValues.{back_stood, shared_at, completion_keeps, completed_node}
 use Rattle.value_laws.proofs.OwnDeliveries.{of_append}
@@ -39,7 +39,7 @@ other_write line demand away =
     ap (λ (b : Bool). b && is_getm demand.kind && is_some demand.ordered) (ne_eqb demand.line line (λ same. away (sym same)))
 
 module _ (d : Doc) (s new : ChipState) (e : OrdersNothing d s new) (values : ValuesHold d s) (t : ℕ) (unit after : UnitState)
-    (c : ChangesUnit s new t unit after) (rising : AreRising s.accesses)
+    (c : ChangesUnit s new t unit after) (turn : AreSucceeding s.accesses)
     (line : ℕ) (words : List ℕ) (demand : Demand) (stands : unit.node.side.misses.demand ≡ Some demand) (place : ℕ) (ordered : demand.ordered ≡ Some place)
     (answers : AnswersGet d s unit.node line words) (node : after.node ≡ (words_arrived unit.node words).0)
     (number : ℕ) (accesses : new.accesses ≡ s.accesses ++ numbered unit (done_by demand.pending (place + 1) words) number ∷ []) where
@@ -134,36 +134,36 @@ module _ (d : Doc) (s new : ChipState) (e : OrdersNothing d s new) (values : Val
       let free : place_of_shared unit.node m ≡ unit.node.delivered =
       ap (λ (o : Option Demand). cond (is_ordered_write m o) (place_of_demand o unit.node.delivered) unit.node.delivered) stands
       ∙ ap (λ (b : Bool). cond b (place_of_demand (Some demand) unit.node.delivered) unit.node.delivered) (other_write m demand away) in
-      itself_copy_on d s new e t unit after c (completion_keeps d s new e t unit after c completion rising) m held held.state count
-      (shared_at d s new e t unit after c completion rising m ∙ count ∙ sym free)
+      itself_copy_on d s new e t unit after c (completion_keeps d s new e t unit after c completion turn) m held held.state count
+      (shared_at d s new e t unit after c completion turn m ∙ count ∙ sym free)
       (λ only. value_elsewhere d s new t unit after e.before completion m unit.node.delivered (λ write same. absurd (away same)))
       (was.copies m held stood)
 
   arrived_node : NodeHasValues d new after.node
   unfolding completion
   arrived_node =
-      completed_node d s new e t unit after c completion rising other_copy
+      completed_node d s new e t unit after c completion turn other_copy
       (λ back there live.
       subst (λ (k : ℕ). HasValue d new back.line k back.words) (sym count)
-      (value_on d s new e t unit after c (completion_keeps d s new e t unit after c completion rising) back.line unit.node.delivered back.words
-      (was.back back (back_stood d s new e t unit after c completion rising back there) live)))
+      (value_on d s new e t unit after c (completion_keeps d s new e t unit after c completion turn) back.line unit.node.delivered back.words
+      (was.back back (back_stood d s new e t unit after c completion turn back there) live)))
       (λ i msg there. elim (of_append unit.node.out (completed unit.node.chip demand place words unit.node.side).sends i msg
       (ap (λ (x : Node). slice_get x.out i) (sym form) ∙ there)) [
         | inl queued ↦ inl (was.out i msg queued)
         | inr sent ↦ inr sent
       ])
       (λ m r there fresh.
-      record_on d s new e t unit after c (completion_keeps d s new e t unit after c completion rising) unit.node after.node m r r.owner count
+      record_on d s new e t unit after c (completion_keeps d s new e t unit after c completion turn) unit.node after.node m r r.owner count
       (was.records m r (ap (λ (x : Node). slice_index_or x.records m None) (sym form) ∙ there) fresh))
 
   arrived_from : ((router port slot : ℕ) (msg : Msg) → stands_at new.replies router port slot ≡ Some msg → stands_at s.replies router port slot ≡ Some msg)
       → ValuesHold d new
   arrived_from left =
-      values_on d s new e t unit after c (completion_keeps d s new e t unit after c completion rising) values arrived_node
+      values_on d s new e t unit after c (completion_keeps d s new e t unit after c completion turn) values arrived_node
       (λ router port slot msg there. values.channels router port slot msg (left router port slot msg there))
 
 -- words that come for an ordered demand keep all values
-pub arrived_values : (d : Doc) (s new : ChipState) → OrdersNothing d s new → ValuesHold d s → AreRising s.accesses → (t : ℕ) (unit after : UnitState)
+pub arrived_values : (d : Doc) (s new : ChipState) → OrdersNothing d s new → ValuesHold d s → AreSucceeding s.accesses → (t : ℕ) (unit after : UnitState)
     → ChangesUnit s new t unit after
     → (line : ℕ) (words : List ℕ) → AnswersGet d s unit.node line words
     → (demand : Demand) (place : ℕ) → unit.node.side.misses.demand ≡ Some demand → demand.ordered ≡ Some place
@@ -171,5 +171,5 @@ pub arrived_values : (d : Doc) (s new : ChipState) → OrdersNothing d s new →
     → (number : ℕ) → new.accesses ≡ s.accesses ++ numbered unit (done_by demand.pending (place + 1) words) number ∷ []
     → ((router port slot : ℕ) (msg : Msg) → stands_at new.replies router port slot ≡ Some msg → stands_at s.replies router port slot ≡ Some msg)
     → ValuesHold d new
-arrived_values d s new e values rising t unit after c line words answers demand place stands ordered node number accesses left =
-    arrived_from d s new e values t unit after c rising line words demand stands place ordered answers node number accesses left
+arrived_values d s new e values turn t unit after c line words answers demand place stands ordered node number accesses left =
+    arrived_from d s new e values t unit after c turn line words demand stands place ordered answers node number accesses left

@@ -26,7 +26,7 @@ use Rattle.value_laws.proofs.Snooping.{snooped_side}
 abbrev pub NoneModified : Chip → Cache → Cache → Type 0
 NoneModified chip cache new = (line : ℕ) → is_modified (lookup chip new line) ≡ true → is_modified (lookup chip cache line) ≡ true
 
-snooped_clean : (chip : Chip) (side : CacheSide) (q : Request)
+pub snooped_clean : (chip : Chip) (side : CacheSide) (q : Request)
     → NoneModified chip side.cache (snooped_with chip q side (holding chip side q.line) q.kind).side.cache
 snooped_clean chip side q line only = by (lookup chip left line) refl only where
   left : Cache

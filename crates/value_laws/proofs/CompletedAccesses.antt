@@ -23,7 +23,7 @@ use Rattle.snoop_core.specs.Requests.{IsRequestOf, MeetsDemand, MeetsOwn, OwnReq
 use Rattle.chip_laws.specs.DocLaws.{DocLaws}
 use Rattle.chip_laws.specs.EventSteps.{ChangesUnit}
 use Rattle.chip_laws.proofs.Options.{none_some}
-use Rattle.value_laws.specs.Sequences.{AreRising}
+use Rattle.value_laws.specs.Sequences.{AreSucceeding}
 use Rattle.value_laws.proofs.SettledSteps.{OrdersNothing}
 use Rattle.value_laws.proofs.DoneAccesses.{completed_done, own_done, get_done, put_done, other_done, data_done}
 use Rattle.value_laws.proofs.Completion.{CompletesBy}
@@ -79,14 +79,14 @@ request_performs q node one own done = elim (cases_eq q.source node.tile) [
 ]
 
 -- a delivery that performs an access completes the demand
-pub request_completes : (d : Doc) (s new : ChipState) → OrdersNothing d s new → ValuesHold d s → DocLaws d → AreRising s.accesses
+pub request_completes : (d : Doc) (s new : ChipState) → OrdersNothing d s new → ValuesHold d s → DocLaws d → AreSucceeding s.accesses
     → (t : ℕ) (unit after : UnitState)
     → ChangesUnit s new t unit after → (q : Request) → slice_get s.network.ordered unit.node.delivered ≡ Some q → OwnRequestFits unit.node.tile unit.node.side q
     → after.node ≡ (node_after_request q unit.node).0 → (one : Done) → (node_after_request q unit.node).1 ≡ Some one
     → (number : ℕ) → new.accesses ≡ s.accesses ++ numbered unit one number ∷ [] → CompletesBy d s new t unit after number
-request_completes d s new e values fits rising t unit after c q next own node one done number accesses =
+request_completes d s new e values fits turn t unit after c q next own node one done number accesses =
     let get = request_performs q unit.node one own done in
-    own_completes d s new e values fits t unit after c rising q next get.source get.asks get.demand get.stands get.is_for get.words get.here node number
+    own_completes d s new e values fits t unit after c turn q next get.source get.asks get.demand get.stands get.is_for get.words get.here node number
     (subst (λ (x : Done). new.accesses ≡ s.accesses ++ numbered unit x number ∷ []) get.done accesses)
 
 -- ---- a message
@@ -125,20 +125,17 @@ message_performs : (msg : Msg) (node : Node) (one : Done) → DataFits node.side
 unfolding node_after_message
 message_performs msg node one fits done = kind_performs msg node one msg.kind refl fits done
 
-pub message_is_data : (msg : Msg) (node : Node) (one : Done) → DataFits node.side msg → (node_after_message msg node).1 ≡ Some one → msg.kind ≡ Data
-message_is_data msg node one fits done = (message_performs msg node one fits done).kind
-
 words_node : (msg : Msg) (node : Node) → msg.kind ≡ Data → (node_after_message msg node).0 ≡ (words_arrived node msg.words).0
 unfolding node_after_message
 words_node msg node kind = ap (λ (k : MsgKind). (arrived_as msg node k).0) kind
 
 -- a message that performs an access completes the demand
-pub message_completes : (d : Doc) (s new : ChipState) → OrdersNothing d s new → ValuesHold d s → AreRising s.accesses → (t : ℕ) (unit after : UnitState)
+pub message_completes : (d : Doc) (s new : ChipState) → OrdersNothing d s new → ValuesHold d s → AreSucceeding s.accesses → (t : ℕ) (unit after : UnitState)
     → ChangesUnit s new t unit after → (msg : Msg) → DataFits unit.node.side msg → (msg.kind ≡ Data → AnswersGet d s unit.node msg.line msg.words)
     → after.node ≡ (node_after_message msg unit.node).0 → (one : Done) → (node_after_message msg unit.node).1 ≡ Some one
     → (number : ℕ) → new.accesses ≡ s.accesses ++ numbered unit one number ∷ [] → CompletesBy d s new t unit after number
-message_completes d s new e values rising t unit after c msg fits answers node one done number accesses =
+message_completes d s new e values turn t unit after c msg fits answers node one done number accesses =
     let came = message_performs msg unit.node one fits done in
-    data_completes d s new e values t unit after c rising msg.line msg.words came.demand came.stands came.place came.ordered (answers came.kind)
+    data_completes d s new e values t unit after c turn msg.line msg.words came.demand came.stands came.place came.ordered (answers came.kind)
     (node ∙ words_node msg unit.node came.kind) number
     (subst (λ (x : Done). new.accesses ≡ s.accesses ++ numbered unit x number ∷ []) came.done accesses)

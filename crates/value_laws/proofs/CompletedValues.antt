@@ -22,7 +22,7 @@ use Rattle.chip_laws.specs.EventSteps.{ChangesUnit}
 use Rattle.chip_laws.proofs.Options.{none_some}
 use Rattle.chip_laws.proofs.SuppliedEvents.{unit_holds}
 use Rattle.chip_laws.proofs.UnderWay.{completed_none}
-use Rattle.value_laws.specs.Sequences.{AreRising}
+use Rattle.value_laws.specs.Sequences.{AreSucceeding}
 use Rattle.value_laws.proofs.Completion.{Completion, fits, write_asks, value_elsewhere}
 use Rattle.value_laws.proofs.CompletedCopies.{CopyLeft, IsLeft, loaded, stored, shared, asks_write, copies_left}
 use Rattle.value_laws.proofs.SettledSteps.{OrdersNothing, now, still_at, settled_on}
@@ -32,7 +32,7 @@ use Rattle.value_laws.proofs.WaitersOf.{WaitsAtPlace, waits_at_place, of_map}
 
 module _ (d : Doc) (s new : ChipState) (e : OrdersNothing d s new) (t : ℕ) (unit after : UnitState) (c : ChangesUnit s new t unit after)
     (is : Completion d s new t unit after)
-    (rising : AreRising s.accesses) where
+    (turn : AreSucceeding s.accesses) where
   -- ---- the node afterwards
   chip : after.node.chip ≡ unit.node.chip
   chip = (unit_holds d new t after e.behind (now d s new e t unit after c)).holds.node.chip ∙ sym (unit_holds d s t unit e.before c.at).holds.node.chip
@@ -103,7 +103,7 @@ module _ (d : Doc) (s new : ChipState) (e : OrdersNothing d s new) (t : ℕ) (un
       subst (λ (x : Held). CopyHasValue d new after.node line x x.state) (sym copy)
       (subst (λ (u : ℕ). HasOwnValue d new u line after.node.delivered (written_by is.demand.pending is.words)) (sym tile)
       (subst (λ (l : ℕ). HasOwnValue d new t l after.node.delivered (written_by is.demand.pending is.words)) (sym here)
-      (stored_value d s new e t unit after c is completion_keeps kind rising after.node.delivered is.reached (omega arith)
+      (stored_value d s new e t unit after c is completion_keeps kind turn after.node.delivered is.reached (omega arith)
       (reads_after_store d s new e t unit after c is completion_keeps kind (ap ends_in_getm alone)))))
   left_value line held there here (shared kind goes_on copy) =
       let unmodified : is_modified (lookup after.node.chip after.node.side.cache is.demand.line) ≡ false =
@@ -113,7 +113,7 @@ module _ (d : Doc) (s new : ChipState) (e : OrdersNothing d s new) (t : ℕ) (un
       (subst (λ (l : ℕ). HasValue d new l after.node.delivered (written_by is.demand.pending is.words)) (sym here)
       (with_itself d s new e t unit after c completion_keeps is.demand.line after.node.delivered (written_by is.demand.pending is.words)
       (itself_settled_at after.node.delivered (omega arith) unmodified)
-      (stored_value d s new e t unit after c is completion_keeps kind rising after.node.delivered is.reached (omega arith)
+      (stored_value d s new e t unit after c is completion_keeps kind turn after.node.delivered is.reached (omega arith)
       (reads_after_store d s new e t unit after c is completion_keeps kind goes_on))))
 
   -- ---- the words for those that waited
@@ -152,7 +152,7 @@ module _ (d : Doc) (s new : ChipState) (e : OrdersNothing d s new) (t : ℕ) (un
         line_is = same;
         value = with_itself d s new e t unit after c completion_keeps is.demand.line waits.place (written_by is.demand.pending is.words)
             (itself_settled_at waits.place (omega (arith, waits.before)) (unmodified_list w i listed))
-            (stored_value d s new e t unit after c is completion_keeps kind rising waits.place waits.beyond (omega (arith, waits.before))
+            (stored_value d s new e t unit after c is completion_keeps kind turn waits.place waits.beyond (omega (arith, waits.before))
             (asks_before d s new e t unit after c is completion_keeps w waits));
       }
 

@@ -1,8 +1,8 @@
 -- A demand completes: the request for which it stands, the words that came for it, and the access that its tile performs with them.
-use Rattle.std.proofs.Common.{◌≡◌, ℕ, ◌+◌, ◌<◌, ◌≤◌, Bool, true, false, refl, sym, ◌∙◌, ap, arith, Some, List, [], ◌∷◌, ◌++◌, set}
-use Rattle.std.specs.Prelude.{◌==◌, ◌&&◌, ◌||◌, nat_lt, nat_le, filter, slice_get}
+use Rattle.std.proofs.Common.{◌≡◌, ℕ, ◌+◌, ◌<◌, ◌≤◌, true, refl, sym, ◌∙◌, ap, arith, Some, List, [], ◌∷◌, ◌++◌, set}
+use Rattle.std.specs.Prelude.{◌==◌, ◌&&◌, nat_le, filter, slice_get}
 use Rattle.std.specs.List.{list_any, AllByRecursion}
-use Rattle.std.proofs.lemmas.Bool.{and_parts, eqb-true, leb-true, lt-ltb, false_from_ne_true}
+use Rattle.std.proofs.lemmas.Bool.{and_parts, eqb-true, leb-true, false_from_ne_true}
 use Rattle.mesh_gen.specs.declared.kind.Kind.TheVariants.{GetS, GetM}
 use Rattle.mesh_gen.specs.declared.request.Request.{Request}
 use Rattle.report_text.specs.declared.access.Access.{Access}
@@ -19,13 +19,14 @@ use Rattle.chip_model.specs.BehaviourLaws.{numbered}
 use Rattle.chip_model.specs.NodeShape.{DemandFits}
 use Rattle.chip_model.specs.Bookkeeping.{is_get_of, between, gets_of_others, up_to_getm, waiting_for}
 use Rattle.chip_model.specs.Suppliers.{place_of_get}
-use Rattle.chip_model.specs.Witness.{is_before, is_write, writes_by, with_write, line_value}
+use Rattle.chip_model.specs.Witness.{is_write, writes_by, with_write, line_value}
 use Rattle.chip_model.specs.Writers.{IsSettled, latest_time}
 use Rattle.chip_model.specs.Values.{HasValue}
 use Rattle.chip_model.specs.ChipInvariant.{ProtocolHolds}
 use Rattle.chip_laws.proofs.Each.{each_from}
 use Rattle.chip_laws.proofs.SuppliedEvents.{unit_holds}
 use Rattle.value_laws.specs.Sequences.{Follows}
+use Rattle.value_laws.proofs.Sequences.{before_time, all_succeed}
 use Rattle.value_laws.proofs.LineValues.{value_kept}
 
 -- The demand's request stands at a place of the order, with what the requests delivered after it have made of the demand; the
@@ -71,16 +72,6 @@ writes_asks Store = refl
 writes_asks Swap = refl
 writes_asks Add = refl
 
-or_left : (a b : Bool) → a ≡ true → (a || b) ≡ true
-or_left true b is = refl
-or_left false b is = cc
-
--- an earlier access comes before
-pub before_time : (b a : Access) → b.time < a.time → is_before b a ≡ true
-before_time b a less =
-    or_left (nat_lt b.time a.time) ((b.time == a.time) && (nat_lt b.tile a.tile || ((b.tile == a.tile) && nat_lt b.number a.number)))
-    (lt-ltb b.time a.time less)
-
 module _ (d : Doc) (s new : ChipState) (t : ℕ) (unit after : UnitState) (holds : ProtocolHolds d s) (is : Completion d s new t unit after) where
   pub fits : DemandFits unit.node.chip unit.node.side.cache is.demand
   fits = (unit_holds d s t unit holds is.at_unit).holds.node.fits.side.demand is.demand is.stands
@@ -110,7 +101,7 @@ module _ (d : Doc) (s new : ChipState) (t : ℕ) (unit after : UnitState) (holds
       → line_value d new.accesses line p ≡ line_value d s.accesses line p
   value_elsewhere line p apart =
       ap (λ (xs : List Access). line_value d xs line p) is.accesses
-      ∙ value_kept d s.accesses is.access line p follows (false_from_ne_true (writes_by line p is.access) (λ counts.
+      ∙ value_kept d s.accesses is.access line p (all_succeed is.access s.accesses follows) (false_from_ne_true (writes_by line p is.access) (λ counts.
       let both = and_parts (is_write is.access && (line_of is.access.address == line)) (nat_le is.access.time p) counts in
       let first = and_parts (is_write is.access) (line_of is.access.address == line) both.0 in
       let early : is.access.time ≤ p = leb-true is.access.time p both.1 in

@@ -45,7 +45,8 @@ does_access unit done was = record {
 }
 
 -- the same chip
-chip_runs : (accesses : List Access) (t : ℕ) (unit : UnitState) (node : Node) → node.chip ≡ unit.node.chip → CoreRuns accesses t unit → CoreRuns accesses t (record unit { node = node })
+chip_runs : (accesses : List Access) (t : ℕ) (unit : UnitState) (node : Node) → node.chip ≡ unit.node.chip → CoreRuns accesses t unit
+    → CoreRuns accesses t (record unit { node = node })
 chip_runs accesses t unit node chip is = record {
   runs = ap (λ (c : Chip). run_alone (4 * c.lines) unit.program (new_core t) (accesses_of t accesses) unit.core.steps) chip ∙ is.runs;
   halts = is.halts;
@@ -69,11 +70,13 @@ step_runs accesses t unit node (Some done) tile is step =
     }
 
 -- an access of another tile
-other_runs : (accesses : List Access) (t u : ℕ) (o : Option Access) (other : UnitState) → u ≢ t → ((a : Access) → o ≡ Some a → a.tile ≡ t) → CoreRuns accesses u other
+other_runs : (accesses : List Access) (t u : ℕ) (o : Option Access) (other : UnitState) → u ≢ t → ((a : Access) → o ≡ Some a → a.tile ≡ t)
+    → CoreRuns accesses u other
     → CoreRuns (with_access o accesses) u other
 other_runs accesses t u None other away tile is = is
 other_runs accesses t u (Some a) other away tile is = record {
-  runs = ap (λ (xs : List Access). run_alone (4 * other.node.chip.lines) other.program (new_core u) xs other.core.steps) (other_push u accesses a (λ own. away (sym own ∙ tile a refl))) ∙ is.runs;
+  runs = ap (λ (xs : List Access). run_alone (4 * other.node.chip.lines) other.program (new_core u) xs other.core.steps)
+      (other_push u accesses a (λ own. away (sym own ∙ tile a refl))) ∙ is.runs;
   halts = is.halts;
 }
 
@@ -81,8 +84,10 @@ other_runs accesses t u (Some a) other away tile is = record {
 abbrev ActedRuns : List Access → ℕ → Acted → Type 0
 ActedRuns accesses t acted = CoreRuns (with_access acted.1 accesses) t acted.0
 
-tried_runs : (accesses : List Access) (t : ℕ) (unit : UnitState) (kind : AccessKind) (sum value : ℕ) (effect : Effect) (acted : Acted) → unit.node.tile ≡ t → CoreRuns accesses t unit
-    → unit.halted ≡ false → next_effect unit ≡ effect → IsAccess unit.node.chip (record { kind = kind; address = address_in unit.node.chip sum; value = value }) effect
+tried_runs : (accesses : List Access) (t : ℕ) (unit : UnitState) (kind : AccessKind) (sum value : ℕ) (effect : Effect) (acted : Acted) → unit.node.tile ≡ t
+    → CoreRuns accesses t unit
+    → unit.halted ≡ false → next_effect unit ≡ effect
+    → IsAccess unit.node.chip (record { kind = kind; address = address_in unit.node.chip sum; value = value }) effect
     → access_tried unit kind sum value ≡ Some acted → ActedRuns accesses t acted
 tried_runs accesses t unit kind sum value effect acted tile is running next here e =
     let access : Pending = record { kind = kind; address = address_in unit.node.chip sum; value = value } in
@@ -90,7 +95,8 @@ tried_runs accesses t unit kind sum value effect acted tile is running next here
     option_map_some (performed unit) (node_after_access access unit.node) acted e (λ step tried same.
     subst (ActedRuns accesses t) same (step_runs accesses t unit step.0 step.1 tile is (access_goes (IsNextAccess unit) access unit.node step next_is tried)))
 
-executed_runs : (accesses : List Access) (t : ℕ) (unit : UnitState) (effect : Effect) (acted : Acted) → unit.node.tile ≡ t → CoreRuns accesses t unit → unit.halted ≡ false
+executed_runs : (accesses : List Access) (t : ℕ) (unit : UnitState) (effect : Effect) (acted : Acted) → unit.node.tile ≡ t → CoreRuns accesses t unit
+    → unit.halted ≡ false
     → next_effect unit ≡ effect → executed unit effect ≡ Some acted → ActedRuns accesses t acted
 executed_runs accesses t unit (Becomes core) acted tile is running next e =
     subst (ActedRuns accesses t) (same_Some {A = Acted} (record unit { core = core }, None) acted e) (record {
@@ -108,7 +114,8 @@ executed_runs accesses t unit (Swaps register sum value) acted tile is running n
 executed_runs accesses t unit (Adds register sum value) acted tile is running next e =
     tried_runs accesses t unit Add sum value (Adds register sum value) acted tile is running next (refl, refl, refl) e
 
-core_runs : (accesses : List Access) (t : ℕ) (unit : UnitState) (acted : Acted) → unit.node.tile ≡ t → CoreRuns accesses t unit → core_event unit ≡ Some acted → ActedRuns accesses t acted
+core_runs : (accesses : List Access) (t : ℕ) (unit : UnitState) (acted : Acted) → unit.node.tile ≡ t → CoreRuns accesses t unit → core_event unit ≡ Some acted
+    → ActedRuns accesses t acted
 unfolding core_event
 core_runs accesses t unit acted tile is e =
     when_some (not (unit.halted || has_entry unit.node)) (executed unit (next_effect unit)) acted e (λ free does.
@@ -116,7 +123,8 @@ core_runs accesses t unit acted tile is e =
     executed_runs accesses t unit (next_effect unit) acted tile is parts.0 refl does)
 
 -- ---- one unit changed
-one_runs : (s new : ChipState) (t : ℕ) (unit after : UnitState) (o : Option Access) → CoresRun s → ChangesUnit s new t unit after → new.accesses ≡ with_access o s.accesses
+one_runs : (s new : ChipState) (t : ℕ) (unit after : UnitState) (o : Option Access) → CoresRun s → ChangesUnit s new t unit after
+    → new.accesses ≡ with_access o s.accesses
     → ((a : Access) → o ≡ Some a → a.tile ≡ t) → CoreRuns (with_access o s.accesses) t after → CoresRun new
 one_runs s new t unit after o is changes accesses tile here =
     each_unit (λ u other. CoreRuns new.accesses u other) s new t unit after changes (subst (λ (xs : List Access). CoreRuns xs t after) (sym accesses) here)
@@ -124,12 +132,15 @@ one_runs s new t unit after o is changes accesses tile here =
 
 same_run : (s new : ChipState) → CoresRun s → new.units ≡ s.units → new.accesses ≡ s.accesses → CoresRun new
 same_run s new is units accesses =
-    same_units (λ u other. CoreRuns new.accesses u other) s new units (λ u other at. subst (λ (xs : List Access). CoreRuns xs u other) (sym accesses) (is u other at))
+    same_units (λ u other. CoreRuns new.accesses u other) s new units
+    (λ u other at. subst (λ (xs : List Access). CoreRuns xs u other) (sym accesses) (is u other at))
 
-node_runs : (s new : ChipState) (t : ℕ) (unit : UnitState) (node : Node) → CoresRun s → ChangesUnit s new t unit (record unit { node = node }) → new.accesses ≡ s.accesses
+node_runs : (s new : ChipState) (t : ℕ) (unit : UnitState) (node : Node) → CoresRun s → ChangesUnit s new t unit (record unit { node = node })
+    → new.accesses ≡ s.accesses
     → node.chip ≡ unit.node.chip → CoresRun new
 node_runs s new t unit node is changes accesses chip =
-    one_runs s new t unit (record unit { node = node }) None is changes accesses (λ a e. none_some a e) (chip_runs s.accesses t unit node chip (is t unit changes.at))
+    one_runs s new t unit (record unit { node = node }) None is changes accesses (λ a e. none_some a e)
+    (chip_runs s.accesses t unit node chip (is t unit changes.at))
 
 -- ---- the events
 work_runs : (d : Doc) (s new : ChipState) (t : ℕ) → ProtocolHolds d s → CoresRun s → CoreWorks in_order s new t → CoresRun new
@@ -141,16 +152,19 @@ work_runs d s new t holds is does =
     one_runs s new t does.unit acted.0 acted.1 is does.changes does.accesses (core_tile t does.unit acted tile event)
     (core_runs s.accesses t does.unit acted tile (is t does.unit does.changes.at) event)
 
-eject_runs : (d : Doc) (s new : ChipState) (chip : Chip) (t : ℕ) → ProtocolHolds d s → CoresInOrder s → CoresRun s → RequestComes in_order chip s new t → CoresRun new
+eject_runs : (d : Doc) (s new : ChipState) (chip : Chip) (t : ℕ) → ProtocolHolds d s → CoresInOrder s → CoresRun s → RequestComes in_order chip s new t
+    → CoresRun new
 unfolding in_order
 eject_runs d s new chip t holds order is does =
     let step = node_after_request does.request does.unit.node in
     let tile = (unit_is d s t does.unit holds does.changes.at).tile in
     let waits = (order t does.unit does.changes.at).waits in
     one_runs s new t does.unit (performed does.unit step).0 (performed does.unit step).1 is does.changes does.accesses (own_tile t does.unit step tile)
-    (step_runs s.accesses t does.unit step.0 step.1 tile (is t does.unit does.changes.at) (delivered_goes (IsNextAccess does.unit) does.request does.unit.node waits))
+    (step_runs s.accesses t does.unit step.0 step.1 tile (is t does.unit does.changes.at)
+    (delivered_goes (IsNextAccess does.unit) does.request does.unit.node waits))
 
-data_runs : (d : Doc) (s new : ChipState) (t : ℕ) (port : Port) (slot : ℕ) → ProtocolHolds d s → CoresInOrder s → CoresRun s → MessageComes in_order s new t port slot → CoresRun new
+data_runs : (d : Doc) (s new : ChipState) (t : ℕ) (port : Port) (slot : ℕ) → ProtocolHolds d s → CoresInOrder s → CoresRun s
+    → MessageComes in_order s new t port slot → CoresRun new
 unfolding in_order
 data_runs d s new t port slot holds order is does =
     let step = node_after_message does.msg does.unit.node in
@@ -167,7 +181,8 @@ send_runs : (s new : ChipState) (t : ℕ) → CoresRun s → MessageEnters s new
 unfolding after_message_sent
 send_runs s new t is does = node_runs s new t does.unit (after_message_sent does.unit.node) is does.changes does.accesses refl
 
-pub cores_run_after : (d : Doc) (s new : ChipState) (event : Event) → ProtocolHolds d s → CoresInOrder s → CoresRun s → EventDoes in_order (chip_of d) s new event → CoresRun new
+pub cores_run_after : (d : Doc) (s new : ChipState) (event : Event) → ProtocolHolds d s → CoresInOrder s → CoresRun s
+    → EventDoes in_order (chip_of d) s new event → CoresRun new
 cores_run_after d s new Tick holds order is does = same_run s new is does.units does.accesses
 cores_run_after d s new (Core t) holds order is does = work_runs d s new t holds is does
 cores_run_after d s new (Inject t) holds order is does = inject_runs s new (chip_of d) t is does

@@ -25,7 +25,8 @@ use Rattle.chip_laws.proofs.Options.{when_some}
 use Rattle.chip_laws.proofs.InOrder.{becomes_goes}
 
 -- ---- a register instruction
-core_at-more : (program : List Instr) (first core new : CoreState) (n : ℕ) → core_at n program first ≡ Some core → stepped program core ≡ Some new → core_at (n + 1) program first ≡ Some new
+core_at-more : (program : List Instr) (first core new : CoreState) (n : ℕ) → core_at n program first ≡ Some core → stepped program core ≡ Some new
+    → core_at (n + 1) program first ≡ Some new
 unfolding core_at advanced
 core_at-more program first core new n e next_is =
     when_some (leb first.steps n) (advanced program (n - first.steps) first) core e (λ at_most reached.
@@ -34,7 +35,8 @@ core_at-more program first core new n e next_is =
     let more : n + 1 - first.steps ≡ suc (n - first.steps) = omega arith in
     rw (test, more) (ap (option_and_then (stepped program)) reached ∙ next_is))
 
-pub runs_register : (words : ℕ) (program : List Instr) (start core new : CoreState) (own : List Access) → run_alone words program start own core.steps ≡ Some core
+pub runs_register : (words : ℕ) (program : List Instr) (start core new : CoreState) (own : List Access)
+    → run_alone words program start own core.steps ≡ Some core
     → effect_of (instr_at program core.place) core ≡ Becomes new → run_alone words program start own new.steps ≡ Some new
 unfolding stepped
 runs_register words program start core new own runs e =
@@ -47,7 +49,8 @@ runs_register words program start core new own runs e =
 made_all-push : (words : ℕ) (program : List Instr) (start : CoreState) (own : List Access) (a : Access)
     → made_all words program start (own ++ a ∷ []) ≡ (made_all words program start own >>= λ before. made_by words program before a)
 unfolding made_all
-made_all-push words program start own a = fold_push (λ (found : Option CoreState) (b : Access). found >>= λ before. made_by words program before b) (Some start) own a
+made_all-push words program start own a = fold_push (λ (found : Option CoreState) (b : Access). found >>= λ before. made_by words program before b)
+    (Some start) own a
 
 pub core_at-itself : (program : List Instr) (core : CoreState) → core_at core.steps program core ≡ Some core
 unfolding core_at advanced
@@ -56,7 +59,8 @@ core_at-itself program core =
     let none : core.steps - core.steps ≡ 0 = omega arith in
     rw (test, none) refl
 
-pub runs_access : (words : ℕ) (program : List Instr) (start core new : CoreState) (own : List Access) (a : Access) → run_alone words program start own core.steps ≡ Some core
+pub runs_access : (words : ℕ) (program : List Instr) (start core new : CoreState) (own : List Access) (a : Access)
+    → run_alone words program start own core.steps ≡ Some core
     → a.number ≡ core.steps
     → made words program core a (next_of program core) a.kind ≡ Some new → run_alone words program start (own ++ a ∷ []) new.steps ≡ Some new
 unfolding made_by
@@ -78,11 +82,13 @@ pub record DoesAccess (access : Pending) (a : Access) : Type 0 where
   pub value : a.value ≡ word_after access.kind access.value word
   pub old : a.old ≡ old_word access.kind word
 
-right_place : (chip : Chip) (access : Pending) (a : Access) (sum : ℕ) → a.address ≡ access.address → access.address ≡ sum % (4 * chip.lines) → (sum % (4 * chip.lines) == a.address) ≡ true
+right_place : (chip : Chip) (access : Pending) (a : Access) (sum : ℕ) → a.address ≡ access.address → access.address ≡ sum % (4 * chip.lines)
+    → (sum % (4 * chip.lines) == a.address) ≡ true
 right_place chip access a sum same at = eq-eqb (sum % (4 * chip.lines)) a.address (sym (same ∙ at))
 
 -- the access that is next is made, and leaves the core that goes on with what it read
-made_next : (chip : Chip) (program : List Instr) (core : CoreState) (access : Pending) (a : Access) (effect : Effect) → DoesAccess access a → IsAccess chip access effect
+made_next : (chip : Chip) (program : List Instr) (core : CoreState) (access : Pending) (a : Access) (effect : Effect) → DoesAccess access a
+    → IsAccess chip access effect
     → made (4 * chip.lines) program core a (next_kind effect) a.kind ≡ Some (core_after program a core)
 made_next chip program core access a (Loads register sum) does is =
     let is_load : a.kind ≡ kind.Load = does.kind ∙ is.0 in
@@ -102,7 +108,8 @@ made_next chip program core access a (Adds register sum value) does is =
     let is_add : a.kind ≡ kind.Add = does.kind ∙ is.0 in
     let read : a.old ≡ does.word = does.old ∙ ap (λ k. old_word k does.word) is.0 in
     let same : word_after kind.Add value a.old ≡ a.value =
-    ap (word_after kind.Add value) read ∙ ap (λ (v : ℕ). word_after kind.Add v does.word) (sym is.2) ∙ sym (does.value ∙ ap (λ k. word_after k access.value does.word) is.0) in
+    ap (word_after kind.Add value) read ∙ ap (λ (v : ℕ). word_after kind.Add v does.word) (sym is.2)
+    ∙ sym (does.value ∙ ap (λ k. word_after k access.value does.word) is.0) in
     let test = and_from _ _ (right_place chip access a sum does.address is.1) (eq-eqb (word_after kind.Add value a.old) a.value same) in
     rw (is_add, test) refl
 made_next chip program core access a (Becomes new) does is = absurd is

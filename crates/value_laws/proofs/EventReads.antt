@@ -15,6 +15,7 @@ use Rattle.doc_text.specs.Doc.{Doc}
 use Rattle.chip_model.specs.declared.done.Done.{Done}
 use Rattle.chip_model.specs.Chip.{Chip, chip_of, line_of}
 use Rattle.chip_model.specs.OrderedNetwork.{OrderedNetwork, after_network_tick}
+use Rattle.chip_model.specs.Snoop.{done_by}
 use Rattle.chip_model.specs.Node.{Node, node_after_request, node_after_message, arrived_as, after_request_sent, after_message_sent}
 use Rattle.chip_model.specs.Units.{UnitState, Acted, Behaviour}
 use Rattle.chip_model.specs.ChipState.{ChipState}
@@ -42,11 +43,12 @@ use Rattle.supply_laws.proofs.KeptOrders.{posted_order, taken_order, hopped_orde
 use Rattle.supply_laws.proofs.Ticked.{ticked}
 use Rattle.value_laws.specs.Sequences.{Follows, AreRising}
 use Rattle.value_laws.specs.Reads.{ReadsHold}
+use Rattle.value_laws.proofs.Sequences.{all_succeed, all_succeeding, pairs_before, pairs_last}
 use Rattle.value_laws.proofs.SettledSteps.{OrdersNothing}
 use Rattle.value_laws.proofs.StepValues.{quiet_keeps}
-use Rattle.value_laws.proofs.Completion.{CompletesBy, at_line}
+use Rattle.value_laws.proofs.Completion.{CompletesBy, at_line, follows}
 use Rattle.value_laws.proofs.CompletedAccesses.{request_completes, message_completes}
-use Rattle.value_laws.proofs.CoreHits.{rising_before, last_follows, hits}
+use Rattle.value_laws.proofs.CoreHits.{hits}
 use Rattle.value_laws.proofs.EventFrames.{orders_nothing}
 use Rattle.value_laws.proofs.GrownValues.{ticks_grow}
 use Rattle.value_laws.proofs.HitAccesses.{hit_access, hit_acts}
@@ -108,8 +110,9 @@ module _ (d : Doc) (s new : ChipState) (e : OrdersNothing d s new) (reads : Read
       let lines : unit.node.chip.lines ≡ d.lines = ap (λ (x : Chip). x.lines) (unit_holds d s t unit e.before c.at).holds.node.chip in
       let inside : line_of is.access.address < d.lines =
       subst (λ (l : ℕ). l < d.lines) (sym (at_line d s new t unit after e.before is)) (subst (λ (n : ℕ). is.demand.line < n) lines within) in
-      reads_performed d s new e t unit after c (completion_keeps d s new e t unit after c is rising) reads is.access is.place is.words
-      (completion_acts d s new t unit after e.before is number by.same) is.accesses fits.doc inside
+      reads_performed d s new e t unit after c (completion_keeps d s new e t unit after c is
+      (all_succeeding s.accesses rising)) reads is.access is.place is.words
+      (completion_acts d s new t unit after e.before is number by.same) (follows d s new t unit after e.before is) is.accesses fits.doc inside
 
   -- with one that hits
   hit_reads : DocLaws d → ValuesHold d s → AreRising new.accesses → (acted : Acted) (is : acted.0 ≡ after) (tries : TriesAccess unit acted) (a : Access)
@@ -118,15 +121,17 @@ module _ (d : Doc) (s new : ChipState) (e : OrdersNothing d s new) (reads : Read
   hit_reads fits values rising acted is tries a some accesses =
       let (hit, number, same) = hits unit acted a tries some in
       let rises : AreRising (s.accesses ++ a ∷ []) = subst AreRising accesses rising in
-      let follows = subst (λ (x : Access). AllByRecursion (λ b. Follows b x) s.accesses) same (last_follows s.accesses a rises) in
+      let last = subst (λ (x : Access). AllByRecursion (λ b. Follows b x) s.accesses) same (pairs_last Follows s.accesses a rises) in
+      let behind = all_succeed (numbered unit (done_by tries.access unit.node.delivered hit.held.words) number) s.accesses last in
       let pushed = subst (λ (x : Access). new.accesses ≡ s.accesses ++ x ∷ []) same accesses in
       let node : after.node ≡ tries.left.0 = ap (λ (x : UnitState). x.node) (sym is) ∙ tries.goes_on.node in
       let lines : unit.node.chip.lines ≡ d.lines = ap (λ (x : Chip). x.lines) (unit_holds d s t unit e.before c.at).holds.node.chip in
       let inside : line_of tries.access.address < d.lines = omega (arith, tries.address, lines) in
       reads_performed d s new e t unit after c
-      (hit_keeps d s new e values (rising_before s.accesses a rises) t unit after c tries.access tries.left hit number node follows pushed)
-      reads (hit_access d s t unit e.before values c.at tries.access tries.left hit number follows) unit.node.delivered hit.held.words
-      (hit_acts d s t unit e.before values c.at tries.access tries.left hit number follows) pushed fits.doc inside
+      (hit_keeps d s new e values (all_succeeding s.accesses (pairs_before Follows s.accesses a rises)) t unit after c tries.access tries.left hit number node
+      behind pushed)
+      reads (hit_access d s t unit e.before values c.at tries.access tries.left hit number behind) unit.node.delivered hit.held.words
+      (hit_acts d s t unit e.before values c.at tries.access tries.left hit number behind) last pushed fits.doc inside
 
 module _ (messages : MessageLaws) (b : Behaviour) (laws : KeepsLaws b) (d : Doc) (s new : ChipState) (fits : DocLaws d) (holds : StateHolds b laws d s)
     (left : StateHolds b laws d new)
@@ -196,7 +201,7 @@ module _ (messages : MessageLaws) (b : Behaviour) (laws : KeepsLaws b) (d : Doc)
         some_answer does.unit (b.delivered does.request does.unit).0 (node_after_request does.request does.unit.node).1
         (b.delivered does.request does.unit).1 one some goes.answers in
         completes d s new e reads t does.unit (b.delivered does.request does.unit).0 does.changes fits rising number
-        (request_completes d s new e values fits rising t does.unit
+        (request_completes d s new e values fits (all_succeeding s.accesses rising) t does.unit
         (b.delivered does.request does.unit).0 does.changes does.request next.at next.own goes.node one some number
         (one_noted s new (b.delivered does.request does.unit).1 (numbered does.unit one number) does.accesses answer))
 
@@ -233,7 +238,8 @@ module _ (messages : MessageLaws) (b : Behaviour) (laws : KeepsLaws b) (d : Doc)
         some_answer does.unit (b.received does.msg does.unit).0 (node_after_message does.msg does.unit.node).1
         (b.received does.msg does.unit).1 one some goes.answers in
         completes d s new e reads t does.unit (b.received does.msg does.unit).0 does.changes fits rising number
-        (message_completes d s new e values rising t does.unit (b.received does.msg does.unit).0 does.changes does.msg awaited answers goes.node one some number
+        (message_completes d s new e values (all_succeeding s.accesses rising) t does.unit
+        (b.received does.msg does.unit).0 does.changes does.msg awaited answers goes.node one some number
         (one_noted s new (b.received does.msg does.unit).1 (numbered does.unit one number) does.accesses answer))
 
   pub reads_after : (event : Event) → EventDoes b (chip_of d) s new event → ReadsHold d new

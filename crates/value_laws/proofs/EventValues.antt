@@ -22,7 +22,7 @@ use Rattle.chip_laws.proofs.RequestsInside.{tile_of}
 use Rattle.supply_laws.specs.Reachable.{StateHolds}
 use Rattle.supply_laws.proofs.Carried.{hopped_stands}
 use Rattle.supply_laws.proofs.KeptOrders.{posted_order, taken_order, hopped_order}
-use Rattle.value_laws.specs.Sequences.{AreRising}
+use Rattle.value_laws.specs.Sequences.{AreSucceeding}
 use Rattle.value_laws.proofs.EventFrames.{orders_nothing}
 use Rattle.value_laws.proofs.GrownValues.{tick_values}
 use Rattle.value_laws.proofs.NodeEvents.{core_values, request_values, message_values}
@@ -36,7 +36,7 @@ AccessesKeepValues b d s new = (t : ℕ) (does : CoreWorks b s new t) (a : Acces
 
 module _ (messages : MessageLaws) (b : Behaviour) (laws : KeepsLaws b) (d : Doc) (s new : ChipState) (fits : DocLaws d) (holds : StateHolds b laws d s)
     (left : StateHolds b laws d new)
-    (rising : AreRising s.accesses) (values : ValuesHold d s) (hits : AccessesKeepValues b d s new) where
+    (turn : AreSucceeding s.accesses) (values : ValuesHold d s) (hits : AccessesKeepValues b d s new) where
   same_order : new.network ≡ s.network → new.network.ordered ≡ s.network.ordered
   same_order same = ap (λ (net : OrderedNetwork). net.ordered) same
 
@@ -74,7 +74,7 @@ module _ (messages : MessageLaws) (b : Behaviour) (laws : KeepsLaws b) (d : Doc)
   values_after (Eject t) does =
       request_values b laws d s new
       (orders_nothing messages b laws d s new (Eject t) fits holds left does
-      (delivered_order (chip_of d) s.network new.network t does.request does.network)) values holds.fit fits rising t does
+      (delivered_order (chip_of d) s.network new.network t does.request does.network)) values holds.fit fits turn t does
   values_after (Send t) does =
       message_sent_values d s new (orders_nothing messages b laws d s new (Send t) fits holds left does (same_order does.network)) values t does.unit
       (record does.unit { node = after_message_sent does.unit.node }) does.changes refl does.msg does.first does.replies does.accesses
@@ -87,4 +87,4 @@ module _ (messages : MessageLaws) (b : Behaviour) (laws : KeepsLaws b) (d : Doc)
   values_after (DataEject r port slot) does =
       message_values b laws d s new (orders_nothing messages b laws d s new (DataEject r port slot) fits holds left does
       (same_order does.network)) values holds.fit fits r port slot does
-      rising holds.none_back holds.messages
+      turn holds.none_back holds.messages

@@ -13,7 +13,8 @@ use Rattle.flat_ref.proofs.Parts.{parts}
 use Rattle.flat_ref.proofs.Consistent.{first_core}
 
 -- where each core gets to its number of steps, one of them is what gets there
-core_reached : (steps : List ℕ) (programs : List (List Instr)) (cores after : List CoreState) (t n : ℕ) (program : List Instr) (core : CoreState) → cores_at steps programs cores ≡ Some after
+core_reached : (steps : List ℕ) (programs : List (List Instr)) (cores after : List CoreState) (t n : ℕ) (program : List Instr) (core : CoreState)
+    → cores_at steps programs cores ≡ Some after
     → slice_get steps t ≡ Some n → slice_get programs t ≡ Some program → slice_get cores t ≡ Some core → slice_get after t ≡ core_at n program core
 unfolding cores_at
 core_reached [] [] [] after t n program core e is_n is_program is_core = absurd (none-some n is_n)
@@ -33,14 +34,17 @@ core_reached (m ∷ steps) (p ∷ programs) (c ∷ cores) after (suc t) n progra
 core_reached steps programs cores after t n program core e is_n is_program is_core = cc
 
 -- the core that makes its accesses alone is the one that the execution leaves
-pub core_left : (programs : List (List Instr)) (memory steps : List ℕ) (accesses : List Access) (after : Flat) (t n : ℕ) (program : List Instr) (core : CoreState)
+pub core_left : (programs : List (List Instr)) (memory steps : List ℕ) (accesses : List Access) (after : Flat) (t n : ℕ) (program : List Instr)
+    (core : CoreState)
     → executed programs memory accesses steps ≡ Some after → slice_get steps t ≡ Some n → slice_get programs t ≡ Some program
     → run_alone (length memory) program (new_core t) (accesses_of t accesses) n ≡ Some core → slice_get after.cores t ≡ Some core
 unfolding executed_from
 core_left programs memory steps accesses after t n program core e is_n is_program alone =
-    option_and_then_some (λ last. cores_at steps programs last.cores >>= λ cores. Some (flat_of cores last.memory)) (taken_all programs (start programs memory) accesses) after e (λ last taken e1.
+    option_and_then_some (λ last. cores_at steps programs last.cores >>= λ cores. Some (flat_of cores last.memory))
+    (taken_all programs (start programs memory) accesses) after e (λ last taken e1.
     option_and_then_some (λ cores. Some (flat_of cores last.memory)) (cores_at steps programs last.cores) after e1 (λ cores reached e2.
-    option_and_then_some (λ made. core_at n program made) (made_all (length memory) program (new_core t) (accesses_of t accesses)) core alone (λ made is_made there.
+    option_and_then_some (λ made. core_at n program made) (made_all (length memory) program (new_core t) (accesses_of t accesses)) core alone
+    (λ made is_made there.
     let whole = parts (length memory) programs (start programs memory) last accesses refl taken in
     let first = first_core programs memory t (slice_get_within programs t program is_program) in
     let its_core = sym (whole.cores t program (new_core t) is_program first) ∙ is_made in

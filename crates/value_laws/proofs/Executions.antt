@@ -26,9 +26,10 @@ use Rattle.chip_laws.proofs.SuppliedEvents.{unit_holds}
 use Rattle.value_laws.specs.Sequences.{Follows, AreRising}
 use Rattle.value_laws.specs.CoreRuns.{steps_done}
 use Rattle.value_laws.specs.Reads.{ReadHolds, AccessesHold}
-use Rattle.value_laws.proofs.Sequences.{follows_by, InOrder, each_in_sequence, each_middle, in_order_sequence, before_is, own_sequence}
+use Rattle.value_laws.proofs.Sequences.{follows_by, InOrder, each_in_sequence, each_middle, in_order_sequence, all_succeeding, before_is, own_sequence}
 
-pub rising_from : (xs : List Access) → ((before behind : ℕ) (a b : Access) → before < behind → slice_get xs before ≡ Some a → slice_get xs behind ≡ Some b → Follows a b) → AreRising xs
+pub rising_from : (xs : List Access) → ((before behind : ℕ) (a b : Access) → before < behind → slice_get xs before ≡ Some a → slice_get xs behind ≡ Some b
+    → Follows a b) → AreRising xs
 rising_from [] h = tt
 rising_from (a ∷ xs) h = (
   each_from (Follows a) xs (λ place b at. h 0 (suc place) a b (omega arith) refl at),
@@ -61,7 +62,8 @@ unit_at_steps s t n at = by (slice_get s.units t) refl where
   by (Some unit) e = (unit, e, same_Some n unit.core.steps (sym at ∙ steps_at s t unit e))
 
 -- a unit runs its program, and its core alone is what its accesses in sequence make of a new one
-pub core_alone : (d : Doc) (s : ChipState) (t : ℕ) (program : List Instr) (unit : UnitState) → DocFits d → AccessesHold d s → slice_get d.programs t ≡ Some program
+pub core_alone : (d : Doc) (s : ChipState) (t : ℕ) (program : List Instr) (unit : UnitState) → DocFits d → AccessesHold d s
+    → slice_get d.programs t ≡ Some program
     → slice_get s.units t ≡ Some unit
     → (unit.program ≡ program) × (run_alone (length d.memory) program (new_core t) (accesses_of t (witness s)) unit.core.steps ≡ Some unit.core)
 unfolding witness
@@ -85,7 +87,7 @@ HoldsWhereRead d s a = reads a.kind ≡ true → ReadHolds d s a
 reads_last : (d : Doc) (s : ChipState) → AccessesHold d s → ReadsLast d.memory (witness s)
 unfolding witness
 reads_last d s h before rest a e is_read =
-    let order = in_order_sequence s.accesses (rising d s h) in
+    let order = in_order_sequence s.accesses (all_succeeding s.accesses (rising d s h)) in
     let all = each_in_sequence (HoldsWhereRead d s) s.accesses (each_from (HoldsWhereRead d s) s.accesses h.reads) in
     let here = each_middle (HoldsWhereRead d s) before rest a (subst (AllByRecursion (HoldsWhereRead d s)) e all) in
     let front = before_is before rest a (subst InOrder e order) in

@@ -61,7 +61,8 @@ length_lines f first (suc count) four =
     ap length (flat_map-cons f first (upwards (first + 1) count))
     ∙ (length-append (f first) (flat_map f (upwards (first + 1) count)) ∙ omega arith)
 
-word_in_lines : (f : ℕ → List ℕ) (first count k j : ℕ) → FourEach f first count → k < count → j < 4 → get_or (flat_map f (upwards first count)) (4 * k + j) 0 ≡ get_or (f (first + k)) j 0
+word_in_lines : (f : ℕ → List ℕ) (first count k j : ℕ) → FourEach f first count → k < count → j < 4 → get_or (flat_map f (upwards first count)) (4 * k + j) 0
+    ≡ get_or (f (first + k)) j 0
 word_in_lines f first zero k j four less small = absurd (omega arith)
 word_in_lines f first (suc count) zero j four less small =
     let same : first + 0 ≡ first = omega arith in
@@ -97,9 +98,11 @@ filter_all [] = refl
 filter_all (a ∷ xs) = ap (λ (ys : List Access). a ∷ ys) (filter_all xs)
 
 -- each write is up to the last place
-counts_all : (d : Doc) (s : ChipState) (line : ℕ) → InOrderChipHolds d s → AllByRecursion (Counts line (length s.network.ordered) (λ a. true)) (in_sequence s.accesses)
+counts_all : (d : Doc) (s : ChipState) (line : ℕ) → InOrderChipHolds d s
+    → AllByRecursion (Counts line (length s.network.ordered) (λ a. true)) (in_sequence s.accesses)
 counts_all d s line h =
-    each_in_sequence (Counts line (length s.network.ordered) (λ a. true)) s.accesses (each_from (Counts line (length s.network.ordered) (λ a. true)) s.accesses (λ place a at write here.
+    each_in_sequence (Counts line (length s.network.ordered) (λ a. true)) s.accesses
+    (each_from (Counts line (length s.network.ordered) (λ a. true)) s.accesses (λ place a at write here.
     sym (le-leb a.time (length s.network.ordered) (h.protocol.timely.writers place a at write).1)))
 
 -- a word of a line after all requests is what was written there last in sequence
@@ -107,9 +110,11 @@ last_word : (d : Doc) (s : ChipState) (line k : ℕ) → DocFits d → InOrderCh
     → get_or (line_value d s.accesses line (length s.network.ordered)) k 0 ≡ last_written (4 * line + k) (get_or d.memory (4 * line + k) 0) (witness s)
 unfolding line_value witness
 last_word d s line k fits h less small =
-    word_of_value line (length s.network.ordered) k (λ a. true) (in_sequence s.accesses) (words_at d.memory line) small (length_words d line fits less) (counts_all d s line h)
+    word_of_value line (length s.network.ordered) k (λ a. true) (in_sequence s.accesses) (words_at d.memory line) small (length_words d line fits less)
+    (counts_all d s line h)
     ∙ ap (last_written (4 * line + k) (get_or (words_at d.memory line) k 0)) (filter_all (in_sequence s.accesses))
-    ∙ ap (λ (word : ℕ). last_written (4 * line + k) word (in_sequence s.accesses)) (get_or-take 4 (drop (4 * line) d.memory) k 0 small ∙ get_or-drop (4 * line) d.memory k 0)
+    ∙ ap (λ (word : ℕ). last_written (4 * line + k) word (in_sequence s.accesses)) (get_or-take 4 (drop (4 * line) d.memory) k 0 small
+    ∙ get_or-drop (4 * line) d.memory k 0)
 
 four_words : (d : Doc) (s : ChipState) → DocFits d → InOrderChipHolds d s → finished s ≡ true → FourEach (final_words (chip_of d) s) 0 d.lines
 four_words d s fits h over k less =
@@ -136,10 +141,12 @@ final_word d s address fits h over less =
 pub memory_left : Counted → Received → (programs : List (List Instr)) (memory steps : List ℕ) (accesses : List Access) (after : Flat) → 0 < length memory
     → executed programs memory accesses steps ≡ Some after → HoldsLast memory after.memory accesses
 memory_left counted received programs memory steps accesses after some e =
-    option_map_some (λ (flat : Flat). flat.memory) (taken_all programs (start programs memory) accesses) after.memory (memory_of_execution programs memory steps accesses after e) (λ last taken same.
+    option_map_some (λ (flat : Flat). flat.memory) (taken_all programs (start programs memory) accesses) after.memory
+    (memory_of_execution programs memory steps accesses after e) (λ last taken same.
     subst (λ (words : List ℕ). HoldsLast memory words accesses) same (holds_last counted received programs (start programs memory) last accesses some taken))
 
-same_memory : (d : Doc) (s : ChipState) (new : List ℕ) → DocFits d → InOrderChipHolds d s → finished s ≡ true → HoldsLast d.memory new (witness s) → new ≡ final_memory d s
+same_memory : (d : Doc) (s : ChipState) (new : List ℕ) → DocFits d → InOrderChipHolds d s → finished s ≡ true → HoldsLast d.memory new (witness s)
+    → new ≡ final_memory d s
 same_memory d s new fits h over holds =
     let long : length (final_memory d s) ≡ 4 * d.lines = length_lines (final_words (chip_of d) s) 0 d.lines (four_words d s fits h over) in
     let whole : length d.memory ≡ 4 * d.lines = fits.memory in
@@ -148,13 +155,15 @@ same_memory d s new fits h over holds =
     holds.words i ∙ sym (final_word d s i fits h over (omega arith)))
 
 -- each core has halted
-halted_left : (d : Doc) (s : ChipState) (after : Flat) → DocFits d → AccessesHold d s → finished s ≡ true → executed d.programs d.memory (witness s) (steps_done s) ≡ Some after
+halted_left : (d : Doc) (s : ChipState) (after : Flat) → DocFits d → AccessesHold d s → finished s ≡ true
+    → executed d.programs d.memory (witness s) (steps_done s) ≡ Some after
     → AreHalted d.programs after.cores
 unfolding next_of
 halted_left d s after fits h over e t program core is_program is_core =
     let tile = tile_of d s t h.chip.protocol (omega (arith, slice_get_within d.programs t program is_program, fits.programs)) in
     let alone = core_alone d s t program tile.unit fits h is_program tile.unit_at in
-    let left = core_left d.programs d.memory (steps_done s) (witness s) after t tile.unit.core.steps program tile.unit.core e (steps_at s t tile.unit tile.unit_at) is_program alone.1 in
+    let left = core_left d.programs d.memory (steps_done s) (witness s) after t tile.unit.core.steps program tile.unit.core e
+    (steps_at s t tile.unit tile.unit_at) is_program alone.1 in
     let halts = (h.cores t tile.unit tile.unit_at).halts (unit_done s t tile.unit over tile.unit_at).halted in
     let core_is : tile.unit.core ≡ core = same_Some tile.unit.core core (sym left ∙ is_core) in
     subst (λ (p : List Instr). next_of p core ≡ Halted) alone.0 (subst (λ (c : CoreState). next_of tile.unit.program c ≡ Halted) core_is (ap next_kind halts))
@@ -169,5 +178,6 @@ is_whole counted received d s fits h over =
     let (after, all) = some_of (executed d.programs d.memory (witness s) (steps_done s)) (is_execution d s fits h) in
     let left = memory_left counted received d.programs d.memory (steps_done s) (witness s) after (some_words d fits) all in (
       record { after = after; executed = all; halted = halted_left d s after fits h over all },
-      memory_of_execution d.programs d.memory (steps_done s) (witness s) after all ∙ ap (λ (words : List ℕ). Some words) (same_memory d s after.memory fits h.chip over left),
+      memory_of_execution d.programs d.memory (steps_done s) (witness s) after all
+          ∙ ap (λ (words : List ℕ). Some words) (same_memory d s after.memory fits h.chip over left),
     )

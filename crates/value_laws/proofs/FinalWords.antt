@@ -101,7 +101,8 @@ come_at_end : (s : ChipState) (line : ℕ) (o : Option ℕ) → due s line ≡ 0
 come_at_end s line None none = refl
 come_at_end s line (Some place) none = reached_none s line place none
 
-memory_words : (d : Doc) (s : ChipState) (line : ℕ) → DocFits d → InOrderChipHolds d s → finished s ≡ true → line < d.lines → owner line s.network.ordered ≡ Memory
+memory_words : (d : Doc) (s : ChipState) (line : ℕ) → DocFits d → InOrderChipHolds d s → finished s ≡ true → line < d.lines
+    → owner line s.network.ordered ≡ Memory
     → words_of_owner (chip_of d) s line Memory ≡ line_value d s.accesses line (length s.network.ordered)
 memory_words d s line fits h over small is_owner =
     let tile = tile_of d s (home (chip_of d) line) h.protocol (home_inside (chip_of d) line fits.chip.controllers) in
@@ -117,7 +118,8 @@ memory_words d s line fits h over small is_owner =
     holds.serves.fresh line r here
     ∙ ap (is_fresh_by s tile.unit.node line) owner_is
     ∙ come_at_end s line (last_written_back line (delivered_to s.network.ordered tile.unit.node)) none in
-    let value = subst (λ (o : Owner). RecordHasValue d s tile.unit.node line r o) owner_is ((h.values.nodes (home (chip_of d) line) tile.unit tile.unit_at).records line r here fresh) in
+    let value = subst (λ (o : Owner). RecordHasValue d s tile.unit.node line r o) owner_is
+    ((h.values.nodes (home (chip_of d) line) tile.unit tile.unit_at).records line r here fresh) in
     ap (λ (o : Option UnitState). unwrap_or (option_map (λ (x : UnitState). words_recorded (get_or x.node.records line None)) o) []) tile.unit_at
     ∙ ap words_recorded here
     ∙ value.value

@@ -101,7 +101,8 @@ none_in_flight s line over =
     let carried = none_carried (λ router port slot msg. count_if (is_back_for line msg)) s.replies done.1 in
     omega (arith, queued, carried)
 
-is_delivered : (d : Doc) (s : ChipState) (place : ℕ) (o : Option Request) → slice_get s.network.ordered place ≡ o → DocFits d → ProtocolHolds d s → finished s ≡ true
+is_delivered : (d : Doc) (s : ChipState) (place : ℕ) (o : Option Request) → slice_get s.network.ordered place ≡ o → DocFits d → ProtocolHolds d s
+    → finished s ≡ true
     → is_undelivered_at s place o ≡ false
 is_delivered d s place None at fits h over = refl
 is_delivered d s place (Some q) at fits h over =
@@ -119,4 +120,5 @@ none_pass {X = X} p none xs = sum_zero (λ (x : X). count_if (p x)) xs (each xs)
 -- no request is still to write a line back
 pub none_to_come : (d : Doc) (s : ChipState) (line : ℕ) → DocFits d → ProtocolHolds d s → finished s ≡ true → write_backs_to_come s line ≡ 0
 none_to_come d s line fits h over =
-    none_pass (is_undelivered s) (λ place. is_delivered d s place (slice_get s.network.ordered place) refl fits h over) (places_written_back line s.network.ordered)
+    none_pass (is_undelivered s) (λ place. is_delivered d s place (slice_get s.network.ordered place) refl fits h over)
+    (places_written_back line s.network.ordered)

@@ -29,7 +29,7 @@ use Rattle.chip_laws.proofs.Each.{each_at, each_from}
 use Rattle.chip_laws.proofs.Options.{none_some, when_some}
 use Rattle.chip_laws.proofs.SuppliedEvents.{unit_holds}
 use Rattle.snoop_core.proofs.Accesses.{accessed_free}
-use Rattle.value_laws.specs.Sequences.{Follows}
+use Rattle.value_laws.specs.Sequences.{Succeeds}
 use Rattle.value_laws.proofs.LineValues.{Counts}
 use Rattle.value_laws.proofs.Passing.{wrote}
 use Rattle.value_laws.proofs.MissValues.{shared_at_count}
@@ -126,7 +126,7 @@ modified_copy copy held at state = ap is_modified at ∙ ap (λ (x : State). is_
 
 module _ (d : Doc) (s : ChipState) (t : ℕ) (unit : UnitState) (holds : ProtocolHolds d s) (values : ValuesHold d s) (at_unit : slice_get s.units t ≡ Some unit)
     (access : Pending) (step : Performed) (hit : Hit access unit.node step) (number : ℕ)
-    (follows : AllByRecursion (λ b. Follows b (numbered unit (done_by access unit.node.delivered hit.held.words) number)) s.accesses) where
+    (follows : AllByRecursion (λ b. Succeeds b (numbered unit (done_by access unit.node.delivered hit.held.words) number)) s.accesses) where
   abbrev pub hit_access : Access
   hit_access = numbered unit (done_by access unit.node.delivered hit.held.words) number
 
@@ -162,7 +162,7 @@ module _ (d : Doc) (s : ChipState) (t : ℕ) (unit : UnitState) (holds : Protoco
     tile = tile;
     follows = follows;
     counts = each_from (Counts line unit.node.delivered (λ b. is_before b hit_access)) s.accesses (λ i b at.
-        counts_here line hit_access b (each_at (λ x. Follows x hit_access) s.accesses i b follows at) (own_writes i b at));
+        counts_here line hit_access b (each_at (λ x. Succeeds x hit_access) s.accesses i b follows at) (own_writes i b at));
     value = copy_words d s unit.node line hit.held hit.held.state shared has;
     reads = λ reads_it. received_word access access.kind unit unit.node.delivered number hit.held.words refl reads_it;
     settled = λ u other at away. copy_settled d s unit.node line hit.held hit.held.state shared has u other at (λ same. away (same ∙ tile));

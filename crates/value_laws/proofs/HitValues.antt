@@ -29,7 +29,7 @@ use Rattle.chip_laws.specs.EventSteps.{ChangesUnit}
 use Rattle.chip_laws.proofs.Each.{each_at, each_from}
 use Rattle.chip_laws.proofs.SuppliedEvents.{unit_holds}
 use Rattle.chip_laws.proofs.UnitFrames.{each_unit}
-use Rattle.value_laws.specs.Sequences.{Follows, AreRising}
+use Rattle.value_laws.specs.Sequences.{Succeeds, AreSucceeding}
 use Rattle.value_laws.proofs.LineValues.{value_kept, value_written}
 use Rattle.value_laws.proofs.SettledSteps.{OrdersNothing, now, settled_on, settled_still}
 use Rattle.value_laws.proofs.StepValues.{KeepsSettled, value_on, itself_copy_on, message_on, early_on, record_on, values_on}
@@ -45,9 +45,10 @@ lookup_written chip cache held words line m there =
     lookup-installed chip cache (record held { words = words }) m (fits_held chip cache held.line (ap is_some at))
     ∙ ap (λ (l : ℕ). if m == l then Some (record held { words = words }) else lookup chip cache m) same
 
-module _ (d : Doc) (s new : ChipState) (e : OrdersNothing d s new) (values : ValuesHold d s) (rising : AreRising s.accesses) (t : ℕ) (unit after : UnitState)
+module _ (d : Doc) (s new : ChipState) (e : OrdersNothing d s new) (values : ValuesHold d s) (turn : AreSucceeding s.accesses) (t : ℕ)
+    (unit after : UnitState)
     (c : ChangesUnit s new t unit after) (access : Pending) (step : Performed) (hit : Hit access unit.node step) (number : ℕ) (node : after.node ≡ step.0)
-    (follows : AllByRecursion (λ b. Follows b (numbered unit (done_by access unit.node.delivered hit.held.words) number)) s.accesses)
+    (follows : AllByRecursion (λ b. Succeeds b (numbered unit (done_by access unit.node.delivered hit.held.words) number)) s.accesses)
     (accesses : new.accesses ≡ s.accesses ++ numbered unit (done_by access unit.node.delivered hit.held.words) number ∷ []) where
   abbrev a : Access
   a = numbered unit (done_by access unit.node.delivered hit.held.words) number
@@ -138,7 +139,7 @@ module _ (d : Doc) (s new : ChipState) (e : OrdersNothing d s new) (values : Val
   written_value : writes access.kind ≡ true → written_by access hit.held.words ≡ line_value d new.accesses line unit.node.delivered
   written_value write = sym (
       ap (λ (xs : List Access). line_value d xs line unit.node.delivered) accesses
-      ∙ value_written d s.accesses a line unit.node.delivered rising follows counted (each_from _ s.accesses (λ i b at counts.
+      ∙ value_written d s.accesses a line unit.node.delivered turn follows counted (each_from _ s.accesses (λ i b at counts.
       let both = and_parts (is_write b && (line_of b.address == line)) (nat_le b.time unit.node.delivered) counts in
       let first = and_parts (is_write b) (line_of b.address == line) both.0 in
       each_at _ s.accesses i b acts.counts at first.0 (eqb-true (line_of b.address) line first.1) ∙ both.1))

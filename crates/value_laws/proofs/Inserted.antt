@@ -4,7 +4,7 @@ use Rattle.std.specs.List.{AllByRecursion}
 use Rattle.std.proofs.lemmas.Bool.{false≢true}
 use Rattle.report_text.specs.declared.access.Access.{Access}
 use Rattle.chip_model.specs.Witness.{is_before, inserted, in_sequence}
-use Rattle.value_laws.specs.Sequences.{Follows}
+use Rattle.value_laws.specs.Sequences.{Succeeds}
 use Rattle.value_laws.proofs.Sequences.{InOrder, one_before, before_asym, before_between, before_trans}
 
 -- ---- two accesses of which one comes before the other are inserted in any order
@@ -12,7 +12,8 @@ use Rattle.value_laws.proofs.Sequences.{InOrder, one_before, before_asym, before
 abbrev put : Access → Access → List Access → Bool → List Access
 put a b xs t = cond t (b ∷ inserted a xs) (a ∷ b ∷ xs)
 
-swapped_at : (x a b : Access) (xs : List Access) (p q : Bool) → is_before b x ≡ p → is_before b a ≡ q → Follows x a → inserted x (inserted a xs) ≡ inserted a (inserted x xs)
+swapped_at : (x a b : Access) (xs : List Access) (p q : Bool) → is_before b x ≡ p → is_before b a ≡ q → Succeeds x a
+    → inserted x (inserted a xs) ≡ inserted a (inserted x xs)
     → inserted x (put a b xs q) ≡ inserted a (put x b xs p)
 swapped_at x a b xs true true ep eq follows rest = rw (ep, eq) (ap (λ (ys : List Access). b ∷ ys) rest)
 swapped_at x a b xs false true ep eq follows rest =
@@ -38,7 +39,7 @@ swapped_at x a b xs false false ep eq follows rest =
       pair true true e f = absurd (false≢true (sym (before_asym x a f) ∙ e))
       pair false false e f = absurd (false≢true (sym f ∙ one_before x a follows e))
 
-swapped : (x a : Access) (xs : List Access) → Follows x a → inserted x (inserted a xs) ≡ inserted a (inserted x xs)
+swapped : (x a : Access) (xs : List Access) → Succeeds x a → inserted x (inserted a xs) ≡ inserted a (inserted x xs)
 swapped x a [] follows = pair (is_before a x) (is_before x a) refl refl where
   pair : (p q : Bool) → is_before a x ≡ p → is_before x a ≡ q → cond p (a ∷ x ∷ []) (x ∷ a ∷ []) ≡ cond q (x ∷ a ∷ []) (a ∷ x ∷ [])
   pair true false e f = refl
@@ -48,7 +49,7 @@ swapped x a [] follows = pair (is_before a x) (is_before x a) refl refl where
 swapped x a (b ∷ xs) follows = swapped_at x a b xs (is_before b x) (is_before b a) refl refl follows (swapped x a xs follows)
 
 -- the last access performed stands in sequence as if it had been inserted last
-pub sequence_push : (xs : List Access) (a : Access) → AllByRecursion (λ x. Follows x a) xs → in_sequence (xs ++ a ∷ []) ≡ inserted a (in_sequence xs)
+pub sequence_push : (xs : List Access) (a : Access) → AllByRecursion (λ x. Succeeds x a) xs → in_sequence (xs ++ a ∷ []) ≡ inserted a (in_sequence xs)
 sequence_push [] a all = refl
 sequence_push (x ∷ xs) a all =
     ap (inserted x) (sequence_push xs a all.1) ∙ swapped x a (in_sequence xs) all.0
@@ -68,7 +69,8 @@ none_passes : (p : Access → Bool) (xs : List Access) → AllByRecursion (λ b.
 none_passes p [] all = refl
 none_passes p (b ∷ xs) all = let fails : p b ≡ false = all.0 in rw fails (none_passes p xs all.1)
 
-behind_by : (p : Access → Bool) (a b y : Access) (t : Bool) → is_before b a ≡ false → is_before b y ≡ true → (p y ≡ true → is_before y a ≡ true) → p y ≡ t → p y ≡ false
+behind_by : (p : Access → Bool) (a b y : Access) (t : Bool) → is_before b a ≡ false → is_before b y ≡ true → (p y ≡ true → is_before y a ≡ true) → p y ≡ t
+    → p y ≡ false
 behind_by p a b y false stop later all e = e
 behind_by p a b y true stop later all e = absurd (false≢true (sym stop ∙ before_trans b y a later (all e)))
 
@@ -78,7 +80,8 @@ behind p a b stop [] later all = tt
 behind p a b stop (y ∷ xs) later all = (behind_by p a b y (p y) stop later.0 all.0 refl, behind p a b stop xs later.1 all.1)
 
 last_by : (p : Access → Bool) (a b : Access) (xs : List Access) (t s : Bool) → is_before b a ≡ t → p b ≡ s → p a ≡ true → InOrder (b ∷ xs)
-    → AllByRecursion (λ y. p y ≡ true → is_before y a ≡ true) (b ∷ xs) → filter p (inserted a xs) ≡ filter p xs ++ a ∷ [] → filter p (put a b xs t) ≡ filter p (b ∷ xs) ++ a ∷ []
+    → AllByRecursion (λ y. p y ≡ true → is_before y a ≡ true) (b ∷ xs) → filter p (inserted a xs) ≡ filter p xs ++ a ∷ []
+    → filter p (put a b xs t) ≡ filter p (b ∷ xs) ++ a ∷ []
 last_by p a b xs true true e f passes order all rest = rw f (ap (λ (ys : List Access). b ∷ ys) rest)
 last_by p a b xs true false e f passes order all rest = rw f rest
 last_by p a b xs false true e f passes order all rest = absurd (false≢true (sym e ∙ all.0 f))

@@ -31,6 +31,7 @@ pub mod CompletedValues
 pub mod Snooping
 pub mod ArrivedValues
 pub mod OwnCompletedValues
+pub mod CleanSteps
 pub mod SnoopedValues
 pub mod EventFrames
 pub mod NodeEvents
@@ -45,11 +46,12 @@ pub mod OpenedValues
 pub mod HitAccesses
 pub mod HitValues
 pub mod DeliveredPrefixes
-pub mod CleanSteps
 pub mod CoreHits
+pub mod DoneAccesses
 pub mod CompletedAccesses
 pub mod EventReads
 pub mod InOrderHits
+pub mod UnitNumbers
+pub mod TurnsKept
+pub mod ReachedTurns
 pub mod ReachedValues
-pub mod DoneAccesses
-pub mod CountedAccesses

@@ -13,7 +13,7 @@ use Rattle.flat_ref.specs.Order.{word_by, last_written}
 use Rattle.chip_model.specs.Chip.{line_of, word_of}
 use Rattle.chip_model.specs.Node.{words_at}
 use Rattle.chip_model.specs.Witness.{is_before, in_sequence, is_write, writes_by, with_write, line_value}
-use Rattle.value_laws.specs.Sequences.{AreRising, Follows}
+use Rattle.value_laws.specs.Sequences.{AreSucceeding, Succeeds}
 use Rattle.value_laws.proofs.Sequences.{each_in_sequence, in_order_sequence}
 use Rattle.value_laws.proofs.Inserted.{sequence_push, passed_over, passed_last, same_passed}
 
@@ -22,7 +22,7 @@ abbrev value_of : Doc → ℕ → List Access → List ℕ
 value_of d line accesses = fold with_write (words_at d.memory line) accesses
 
 -- an access that is no write to the line up to the place changes nothing
-pub value_kept : (d : Doc) (xs : List Access) (a : Access) (line place : ℕ) → AllByRecursion (λ x. Follows x a) xs → writes_by line place a ≡ false
+pub value_kept : (d : Doc) (xs : List Access) (a : Access) (line place : ℕ) → AllByRecursion (λ x. Succeeds x a) xs → writes_by line place a ≡ false
     → line_value d (xs ++ a ∷ []) line place ≡ line_value d xs line place
 unfolding line_value
 value_kept d xs a line place follows fails =
@@ -30,21 +30,25 @@ value_kept d xs a line place follows fails =
     ∙ ap (value_of d line) (passed_over (writes_by line place) a (in_sequence xs) fails)
 
 -- the last write to the line up to the place changes its word
-pub value_written : (d : Doc) (xs : List Access) (a : Access) (line place : ℕ) → AreRising xs → AllByRecursion (λ x. Follows x a) xs → writes_by line place a ≡ true
-    → AllByRecursion (λ b. writes_by line place b ≡ true → is_before b a ≡ true) xs → line_value d (xs ++ a ∷ []) line place ≡ with_write (line_value d xs line place) a
+pub value_written : (d : Doc) (xs : List Access) (a : Access) (line place : ℕ) → AreSucceeding xs → AllByRecursion (λ x. Succeeds x a) xs
+    → writes_by line place a ≡ true
+    → AllByRecursion (λ b. writes_by line place b ≡ true → is_before b a ≡ true) xs
+    → line_value d (xs ++ a ∷ []) line place ≡ with_write (line_value d xs line place) a
 unfolding line_value
-value_written d xs a line place rising follows passes last =
-    let order = in_order_sequence xs rising in
+value_written d xs a line place turn follows passes last =
+    let order = in_order_sequence xs turn in
     let behind = each_in_sequence (λ b. writes_by line place b ≡ true → is_before b a ≡ true) xs last in
     ap (λ (ys : List Access). value_of d line (filter (writes_by line place) ys)) (sequence_push xs a follows)
     ∙ (ap (value_of d line) (passed_last (writes_by line place) a (in_sequence xs) passes order behind)
     ∙ fold_push with_write (words_at d.memory line) (filter (writes_by line place) (in_sequence xs)) a)
 
 -- where the writes up to two places are the same, the value is
-pub value_same : (d : Doc) (xs : List Access) (line p q : ℕ) → AllByRecursion (λ a. writes_by line p a ≡ writes_by line q a) xs → line_value d xs line p ≡ line_value d xs line q
+pub value_same : (d : Doc) (xs : List Access) (line p q : ℕ) → AllByRecursion (λ a. writes_by line p a ≡ writes_by line q a) xs
+    → line_value d xs line p ≡ line_value d xs line q
 unfolding line_value
 value_same d xs line p q all =
-    ap (value_of d line) (same_passed (writes_by line p) (writes_by line q) (in_sequence xs) (each_in_sequence (λ a. writes_by line p a ≡ writes_by line q a) xs all))
+    ap (value_of d line) (same_passed (writes_by line p) (writes_by line q) (in_sequence xs)
+    (each_in_sequence (λ a. writes_by line p a ≡ writes_by line q a) xs all))
 
 -- an access is no write to the line at this time
 abbrev pub NoWriteAt : ℕ → ℕ → Access → Type 0
@@ -54,7 +58,8 @@ not_then : (line place : ℕ) (a : Access) → NoWriteAt line (place + 1) a → 
 not_then line place a fails = grind (arith, nat_tests, fails)
 
 -- to the next place, where no write has that time
-pub value_next : (d : Doc) (xs : List Access) (line place : ℕ) → AllByRecursion (NoWriteAt line (place + 1)) xs → line_value d xs line (place + 1) ≡ line_value d xs line place
+pub value_next : (d : Doc) (xs : List Access) (line place : ℕ) → AllByRecursion (NoWriteAt line (place + 1)) xs
+    → line_value d xs line (place + 1) ≡ line_value d xs line place
 value_next d xs line place all =
     value_same d xs line (place + 1) place
     (AllByRecursion-map (NoWriteAt line (place + 1)) (λ a. writes_by line (place + 1) a ≡ writes_by line place a) (not_then line place) xs all)
@@ -80,7 +85,8 @@ word_written line k a words small four write here =
     ]
 
 -- another access does not change it
-word_kept : (line k : ℕ) (a : Access) (word : ℕ) (write : Bool) → is_write a ≡ write → k < 4 → (write ≡ true → line_of a.address ≡ line → ⊥) → word_by (4 * line + k) a word ≡ word
+word_kept : (line k : ℕ) (a : Access) (word : ℕ) (write : Bool) → is_write a ≡ write → k < 4 → (write ≡ true → line_of a.address ≡ line → ⊥)
+    → word_by (4 * line + k) a word ≡ word
 word_kept line k a word false is small fails = rw is refl
 word_kept line k a word true is small fails =
     let other : line_of a.address ≡ line → ⊥ = fails refl in
@@ -91,9 +97,11 @@ word_kept line k a word true is small fails =
 abbrev pub Counts : ℕ → ℕ → (Access → Bool) → Access → Type 0
 Counts line place q b = is_write b ≡ true → line_of b.address ≡ line → q b ≡ nat_le b.time place
 
-word_by_test : (line place k : ℕ) (q : Access → Bool) (a : Access) (xs : List Access) (words : List ℕ) (s t : Bool) → writes_by line place a ≡ s → q a ≡ t → k < 4
+word_by_test : (line place k : ℕ) (q : Access → Bool) (a : Access) (xs : List Access) (words : List ℕ) (s t : Bool) → writes_by line place a ≡ s → q a ≡ t
+    → k < 4
     → length words ≡ 4 → Counts line place q a
-    → ((new : List ℕ) → length new ≡ 4 → get_or (fold with_write new (filter (writes_by line place) xs)) k 0 ≡ last_written (4 * line + k) (get_or new k 0) (filter q xs))
+    → ((new : List ℕ) → length new ≡ 4 → get_or (fold with_write new (filter (writes_by line place) xs)) k 0
+    ≡ last_written (4 * line + k) (get_or new k 0) (filter q xs))
     → get_or (fold with_write words (cond s (a ∷ filter (writes_by line place) xs) (filter (writes_by line place) xs))) k 0
     ≡ last_written (4 * line + k) (get_or words k 0) (cond t (a ∷ filter q xs) (filter q xs))
 word_by_test line place k q a xs words true true es et small four counts rest =
@@ -104,12 +112,15 @@ word_by_test line place k q a xs words true true es et small four counts rest =
 word_by_test line place k q a xs words true false es et small four counts rest = absurd (grind (arith, nat_tests, counts))
 word_by_test line place k q a xs words false true es et small four counts rest =
     rest words four
-    ∙ ap (λ (word : ℕ). last_written (4 * line + k) word (filter q xs)) (sym (word_kept line k a (get_or words k 0) (is_write a) refl small (λ write here. grind (arith, nat_tests, counts))))
+    ∙ ap (λ (word : ℕ). last_written (4 * line + k) word (filter q xs))
+    (sym (word_kept line k a (get_or words k 0) (is_write a) refl small (λ write here. grind (arith, nat_tests, counts))))
 word_by_test line place k q a xs words false false es et small four counts rest = rest words four
 
 -- a word of a line's value is what was last written there
-pub word_of_value : (line place k : ℕ) (q : Access → Bool) (xs : List Access) (words : List ℕ) → k < 4 → length words ≡ 4 → AllByRecursion (Counts line place q) xs
+pub word_of_value : (line place k : ℕ) (q : Access → Bool) (xs : List Access) (words : List ℕ) → k < 4 → length words ≡ 4
+    → AllByRecursion (Counts line place q) xs
     → get_or (fold with_write words (filter (writes_by line place) xs)) k 0 ≡ last_written (4 * line + k) (get_or words k 0) (filter q xs)
 word_of_value line place k q [] words small four all = refl
 word_of_value line place k q (a ∷ xs) words small four all =
-    word_by_test line place k q a xs words (writes_by line place a) (q a) refl refl small four all.0 (λ new is_four. word_of_value line place k q xs new small is_four all.1)
+    word_by_test line place k q a xs words (writes_by line place a) (q a) refl refl small four all.0
+    (λ new is_four. word_of_value line place k q xs new small is_four all.1)

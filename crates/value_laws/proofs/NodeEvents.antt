@@ -35,7 +35,7 @@ use Rattle.chip_laws.proofs.WholeSteps.{delivers_next}
 use Rattle.supply_laws.specs.OpenGets.{NoneWritesBackBefore, DataAnswersGets}
 use Rattle.supply_laws.proofs.Arrivals.{arrivals_fit}
 use Rattle.supply_laws.proofs.Carried.{received_leaves}
-use Rattle.value_laws.specs.Sequences.{AreRising}
+use Rattle.value_laws.specs.Sequences.{AreSucceeding}
 use Rattle.value_laws.proofs.ArrivedValues.{arrived_values}
 use Rattle.value_laws.proofs.EarlyValues.{early_values}
 use Rattle.value_laws.proofs.GrownValues.{carried_due}
@@ -96,7 +96,7 @@ core_values b laws d s new e values fit t does none =
 -- ---- the delivery of a request
 module _ (b : Behaviour) (laws : KeepsLaws b) (d : Doc) (s new : ChipState) (e : OrdersNothing d s new) (values : ValuesHold d s) (fit : UnitsFit b laws s)
     (fits : DocLaws d)
-    (rising : AreRising s.accesses) (t : ℕ) (does : RequestComes b (chip_of d) s new t) (source : does.request.source ≡ does.unit.node.tile) where
+    (turn : AreSucceeding s.accesses) (t : ℕ) (does : RequestComes b (chip_of d) s new t) (source : does.request.source ≡ does.unit.node.tile) where
   goes : GoesOn does.unit (node_after_request does.request does.unit.node) (b.delivered does.request does.unit)
   goes = (laws.delivered does.request does.unit (fit t does.unit does.changes.at)).1.goes_on
 
@@ -138,7 +138,7 @@ module _ (b : Behaviour) (laws : KeepsLaws b) (d : Doc) (s new : ChipState) (e :
         let (number, answer) =
         some_answer does.unit (b.delivered does.request does.unit).0 (node_after_request does.request does.unit.node).1
         (b.delivered does.request does.unit).1 done is goes.answers in
-        own_completed_values d s new e values fits rising t does.unit
+        own_completed_values d s new e values fits turn t does.unit
         (b.delivered does.request does.unit).0 does.changes does.request next source asks demand stands is_for words here goes.node
         number (one_noted s new (b.delivered does.request does.unit).1 (numbered does.unit done number) does.accesses answer) does.replies
 
@@ -151,10 +151,10 @@ module _ (b : Behaviour) (laws : KeepsLaws b) (d : Doc) (s new : ChipState) (e :
   own_request_values = by_kind does.request.kind refl (own source)
 
 pub request_values : (b : Behaviour) (laws : KeepsLaws b) (d : Doc) (s new : ChipState) → OrdersNothing d s new → ValuesHold d s → UnitsFit b laws s
-    → DocLaws d → AreRising s.accesses
+    → DocLaws d → AreSucceeding s.accesses
     → (t : ℕ) → RequestComes b (chip_of d) s new t → ValuesHold d new
-request_values b laws d s new e values fit fits rising t does = elim (cases_eq does.request.source does.unit.node.tile) [
-  | inl own ↦ own_request_values b laws d s new e values fit fits rising t does own
+request_values b laws d s new e values fit fits turn t does = elim (cases_eq does.request.source does.unit.node.tile) [
+  | inl own ↦ own_request_values b laws d s new e values fit fits turn t does own
   | inr away ↦ (
       let goes = (laws.delivered does.request does.unit (fit t does.unit does.changes.at)).1.goes_on in
       other_request_values d s new e values fits t does.unit (b.delivered does.request does.unit).0 does.changes does.request
@@ -199,9 +199,9 @@ module _ (b : Behaviour) (laws : KeepsLaws b) (d : Doc) (s new : ChipState) (e :
   answers kind = (subst (MessageHasValue d s does.msg) kind carried) does.unit (ap (slice_get s.units) received.here ∙ does.changes.at)
 
   -- for an ordered demand
-  ordered_data : AreRising s.accesses → does.msg.kind ≡ Data → (demand : Demand) (place : ℕ) → does.unit.node.side.misses.demand ≡ Some demand
+  ordered_data : AreSucceeding s.accesses → does.msg.kind ≡ Data → (demand : Demand) (place : ℕ) → does.unit.node.side.misses.demand ≡ Some demand
       → demand.ordered ≡ Some place → ValuesHold d new
-  ordered_data rising kind demand place stands ordered =
+  ordered_data turn kind demand place stands ordered =
       let shown : node_after_message does.msg does.unit.node ≡ words_arrived does.unit.node does.msg.words = message_as Data kind in
       let done : (node_after_message does.msg does.unit.node).1 ≡ Some (done_by demand.pending (place + 1) does.msg.words) =
       ap (λ (p : Performed). p.1) shown ∙ data_done does.unit.node does.msg.words demand (Some place) stands ordered
@@ -209,7 +209,7 @@ module _ (b : Behaviour) (laws : KeepsLaws b) (d : Doc) (s new : ChipState) (e :
       let (number, answer) =
       some_answer does.unit (b.received does.msg does.unit).0 (node_after_message does.msg does.unit.node).1 (b.received does.msg does.unit).1
       (done_by demand.pending (place + 1) does.msg.words) done reacts.answers in
-      arrived_values d s new e values rising t does.unit (b.received does.msg does.unit).0 does.changes does.msg.line does.msg.words
+      arrived_values d s new e values turn t does.unit (b.received does.msg does.unit).0 does.changes does.msg.line does.msg.words
       (answers kind) demand place stands ordered
       (reacts.node ∙ ap (λ (p : Performed). p.0) shown) number
       (one_noted s new (b.received does.msg does.unit).1
@@ -228,18 +228,18 @@ module _ (b : Behaviour) (laws : KeepsLaws b) (d : Doc) (s new : ChipState) (e :
       (b.received does.msg does.unit).1 done reacts.answers))
       (λ r p i m there. values.channels r p i m (left r p i m there))
 
-  data_values : AreRising s.accesses → DataAnswersGets s → does.msg.kind ≡ Data → ValuesHold d new
-  data_values rising waiting kind =
+  data_values : AreSucceeding s.accesses → DataAnswersGets s → does.msg.kind ≡ Data → ValuesHold d new
+  data_values turn waiting kind =
       let (demand, stands, is_for) = arrivals_fit d s e.before waiting t port slot does.unit does.msg new.replies does.changes.at does.replies kind in
       by demand stands is_for.line demand.ordered refl
     where
       by : (demand : Demand) → does.unit.node.side.misses.demand ≡ Some demand → demand.line ≡ does.msg.line → (place : Option ℕ) → demand.ordered ≡ place
           → ValuesHold d new
-      by demand stands line (Some place) ordered = ordered_data rising kind demand place stands ordered
+      by demand stands line (Some place) ordered = ordered_data turn kind demand place stands ordered
       by demand stands line None unordered = early_data kind demand stands (sym line) unordered
 
-  pub message_values : AreRising s.accesses → NoneWritesBackBefore s → DataAnswersGets s → ValuesHold d new
-  message_values rising none waiting = by does.msg.kind refl where
+  pub message_values : AreSucceeding s.accesses → NoneWritesBackBefore s → DataAnswersGets s → ValuesHold d new
+  message_values turn none waiting = by does.msg.kind refl where
     by : (kind : MsgKind) → does.msg.kind ≡ kind → ValuesHold d new
-    by Data kind = data_values rising waiting kind
+    by Data kind = data_values turn waiting kind
     by Back kind = back_values none kind

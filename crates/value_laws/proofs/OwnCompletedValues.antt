@@ -31,7 +31,7 @@ use Rattle.chip_laws.proofs.OrderLists.{between_none}
 use Rattle.chip_laws.proofs.SuppliedEvents.{unit_holds}
 use Rattle.supply_laws.proofs.GetPlaces.{get_of, undelivered_open}
 use Rattle.supply_laws.proofs.PlaceEvents.{one_of}
-use Rattle.value_laws.specs.Sequences.{AreRising}
+use Rattle.value_laws.specs.Sequences.{AreSucceeding}
 use Rattle.value_laws.proofs.AnsweredValues.{records_next, home_sends}
 use Rattle.value_laws.proofs.Completion.{Completion, CompletesBy, value_elsewhere}
 use Rattle.value_laws.proofs.CompletedValues.{idle, back_stood, completion_keeps, completed_node}
@@ -60,7 +60,7 @@ owned_here node line words (Some held) there is = by held.state refl is where
 
 module _ (d : Doc) (s new : ChipState) (e : OrdersNothing d s new) (values : ValuesHold d s) (fits : DocLaws d) (t : ℕ) (unit after : UnitState)
     (c : ChangesUnit s new t unit after)
-    (rising : AreRising s.accesses) (q : Request) (next : slice_get s.network.ordered unit.node.delivered ≡ Some q) (source : q.source ≡ unit.node.tile)
+    (turn : AreSucceeding s.accesses) (q : Request) (next : slice_get s.network.ordered unit.node.delivered ≡ Some q) (source : q.source ≡ unit.node.tile)
     (asks : is_get q.kind ≡ true)
     (demand : Demand) (stands : unit.node.side.misses.demand ≡ Some demand) (is_for : IsRequestOf demand q)
     (words : List ℕ) (here : words_here unit.node.chip unit.node.side demand demand.early ≡ Some words) (node : after.node ≡ (node_after_request q unit.node).0)
@@ -156,7 +156,7 @@ module _ (d : Doc) (s new : ChipState) (e : OrdersNothing d s new) (values : Val
   shared line = record {
     asks = λ is.
         absurd (both_ways (is_ordered_write line after.node.side.misses.demand)
-        (ap (is_ordered_write line) (idle d s new e t unit after c completion rising)) is);
+        (ap (is_ordered_write line) (idle d s new e t unit after c completion turn)) is);
     free = λ is. shared_at_count unit.node line unordered;
   }
 
@@ -165,14 +165,14 @@ module _ (d : Doc) (s new : ChipState) (e : OrdersNothing d s new) (values : Val
       → CopyHasValue d new after.node m held held.state
   unfolding completion
   other_copy m held away stood there =
-      copy_next d s new e t unit after c (completion_keeps d s new e t unit after c completion rising) count m held there (shared m)
+      copy_next d s new e t unit after c (completion_keeps d s new e t unit after c completion turn) count m held there (shared m)
       (λ only. value_elsewhere d s new t unit after e.before completion m (n + 1) (λ write same. absurd (away same))) (was.copies m held stood)
 
   back_value : (back : WriteBack) → after.node.side.misses.back ≡ Some back → back.live ≡ true → HasValue d new back.line after.node.delivered back.words
   unfolding completion
   back_value back there live =
-      let stood = back_stood d s new e t unit after c completion rising back there in
-      back_next d s new e t unit after c (completion_keeps d s new e t unit after c completion rising) count back there live
+      let stood = back_stood d s new e t unit after c completion turn back there in
+      back_next d s new e t unit after c (completion_keeps d s new e t unit after c completion turn) count back there live
       (value_elsewhere d s new t unit after e.before completion back.line (n + 1) (λ write same.
       absurd (both_ways (demand.line == back.line) ((unit_holds d s t unit e.before c.at).holds.node.fits.side.apart demand back stands stood)
       (eq-eqb demand.line back.line (sym same)))))
@@ -193,19 +193,19 @@ module _ (d : Doc) (s new : ChipState) (e : OrdersNothing d s new) (values : Val
   own_completed : NodeHasValues d new after.node
   unfolding completion
   own_completed =
-      completed_node d s new e t unit after c completion rising other_copy back_value
+      completed_node d s new e t unit after c completion turn other_copy back_value
       (λ i msg there. queued i msg (ap (λ (x : Node). slice_get x.out i) (sym form) ∙ there))
       (λ m r there fresh.
-      records_next d s new e t unit after c (completion_keeps d s new e t unit after c completion rising) count q next was
+      records_next d s new e t unit after c (completion_keeps d s new e t unit after c completion turn) count q next was
       (ap (λ (x : Node). x.records) form) m r there fresh)
 
   own_from : new.replies ≡ s.replies → ValuesHold d new
   own_from replies =
-      values_on d s new e t unit after c (completion_keeps d s new e t unit after c completion rising) values own_completed
+      values_on d s new e t unit after c (completion_keeps d s new e t unit after c completion turn) values own_completed
       (λ router port slot msg there. values.channels router port slot msg (ap (λ (net : Network Msg). stands_at net router port slot) (sym replies) ∙ there))
 
 -- the delivery of a tile's own get that completes keeps all values
-pub own_completed_values : (d : Doc) (s new : ChipState) → OrdersNothing d s new → ValuesHold d s → DocLaws d → AreRising s.accesses
+pub own_completed_values : (d : Doc) (s new : ChipState) → OrdersNothing d s new → ValuesHold d s → DocLaws d → AreSucceeding s.accesses
     → (t : ℕ) (unit after : UnitState)
     → ChangesUnit s new t unit after → (q : Request) → slice_get s.network.ordered unit.node.delivered ≡ Some q → q.source ≡ unit.node.tile
     → is_get q.kind ≡ true
@@ -213,5 +213,5 @@ pub own_completed_values : (d : Doc) (s new : ChipState) → OrdersNothing d s n
     → (words : List ℕ) → words_here unit.node.chip unit.node.side demand demand.early ≡ Some words → after.node ≡ (node_after_request q unit.node).0
     → (number : ℕ) → new.accesses ≡ s.accesses ++ numbered unit (done_by demand.pending (unit.node.delivered + 1) words) number ∷ []
     → new.replies ≡ s.replies → ValuesHold d new
-own_completed_values d s new e values fits rising t unit after c q next source asks demand stands is_for words here node number accesses replies =
-    own_from d s new e values fits t unit after c rising q next source asks demand stands is_for words here node number accesses replies
+own_completed_values d s new e values fits turn t unit after c q next source asks demand stands is_for words here node number accesses replies =
+    own_from d s new e values fits t unit after c turn q next source asks demand stands is_for words here node number accesses replies

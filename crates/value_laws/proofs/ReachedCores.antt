@@ -27,12 +27,14 @@ use Rattle.value_laws.proofs.CoreEvents.{cores_run_after}
 
 pub cores_run_opened : (d : Doc) → CoresRun (opening d)
 cores_run_opened d t unit at = subst (CoreRuns [] t) (opened_unit d t unit at) (record {
-  runs = ap (λ (o : Option CoreState). o >>= λ core. core_at 0 (program_of d t) core) (made_all_none (4 * d.lines) (program_of d t) (new_core t)) ∙ core_at-itself (program_of d t) (new_core t);
+  runs = ap (λ (o : Option CoreState). o >>= λ core. core_at 0 (program_of d t) core) (made_all_none (4 * d.lines) (program_of d t) (new_core t))
+      ∙ core_at-itself (program_of d t) (new_core t);
   halts = λ halted. absurd (false≢true halted);
 })
 
 -- a run from a state of which it holds leads to one of which it holds
-pub cores_run_reached : IsKept → AreKeptInOrder → (laws : KeepsLaws in_order) (d : Doc) (events : List Event) (s last : ChipState) → DocFits d → StateHolds in_order laws d s
+pub cores_run_reached : IsKept → AreKeptInOrder → (laws : KeepsLaws in_order) (d : Doc) (events : List Event) (s last : ChipState) → DocFits d
+    → StateHolds in_order laws d s
     → CoresInOrder s → CoresRun s
     → run in_order (chip_of d) s events ≡ Some last → CoresRun last
 unfolding run

@@ -1,24 +1,19 @@
 -- In every state that a chip of in-order cores reaches all copies have their values, and each read received what was written
 -- last before it.
-use Rattle.std.proofs.Common.{◌≡◌, ◌≢◌, ℕ, ◌<◌, Option, Some, None, List, [], ◌∷◌, refl, sym, ap, ◌∙◌, subst, inl, inr, arith}
-use Rattle.std.specs.Prelude.{slice_get}
-use Rattle.std.proofs.lemmas.Bool.{cases_lt}
+use Rattle.std.proofs.Common.{◌≡◌, Some, List, [], ◌∷◌, refl, subst}
 use Rattle.std.proofs.lemmas.Option.{same_Some}
-use Rattle.report_text.specs.declared.access.Access.{Access}
 use Rattle.report_text.specs.declared.event.Event.{Event}
-use Rattle.report_text.specs.declared.event.Event.TheVariants.{Tick, Core, Inject, Post, Take, Eject, Send, Hop, DataHop, DataEject}
 use Rattle.doc_text.specs.Doc.{Doc}
-use Rattle.chip_model.specs.Chip.{Chip, chip_of}
+use Rattle.chip_model.specs.Chip.{chip_of}
 use Rattle.chip_model.specs.Units.{Behaviour, in_order}
 use Rattle.chip_model.specs.ChipState.{ChipState, opening}
-use Rattle.chip_model.specs.Events.{step, with_access}
+use Rattle.chip_model.specs.Events.{step}
 use Rattle.chip_model.specs.Runs.{noted, after, run}
 use Rattle.chip_model.specs.BehaviourLaws.{KeepsLaws}
 use Rattle.chip_model.specs.Values.{ValuesHold}
-use Rattle.chip_model.specs.ChipInvariant.{CoresInOrder, ProtocolHolds}
+use Rattle.chip_model.specs.ChipInvariant.{CoresInOrder}
 use Rattle.chip_laws.specs.DocFits.{DocFits}
 use Rattle.chip_laws.specs.DocLaws.{DocLaws}
-use Rattle.chip_laws.specs.EventSteps.{EventDoes}
 use Rattle.chip_laws.specs.MessageLaws.{MessageLaws}
 use Rattle.chip_laws.proofs.EventSteps.{event_does}
 use Rattle.chip_laws.proofs.Options.{none_some, bind}
@@ -27,29 +22,17 @@ use Rattle.chip_laws.proofs.RequestsInside.{tile_of}
 use Rattle.supply_laws.specs.Reachable.{StateHolds}
 use Rattle.supply_laws.proofs.NotedStates.{noted_state, noted_cores}
 use Rattle.supply_laws.proofs.ReachedStates.{IsKept, AreKeptInOrder, noted_after}
-use Rattle.value_laws.specs.Sequences.{AreRising}
 use Rattle.value_laws.specs.CoreRuns.{CoresRun}
 use Rattle.value_laws.specs.Reads.{ReadsHold, AccessesHold}
 use Rattle.value_laws.proofs.Executions.{cores_rising}
-use Rattle.value_laws.proofs.SettledSteps.{OrdersNothing}
-use Rattle.value_laws.proofs.StayedValues.{same_values}
-use Rattle.value_laws.proofs.QuietValues.{no_change, node_kept_values}
+use Rattle.value_laws.proofs.QuietValues.{no_change}
 use Rattle.value_laws.proofs.OpenedValues.{values_opened}
-use Rattle.value_laws.proofs.EventFrames.{same_places}
-use Rattle.value_laws.proofs.EventValues.{values_after}
 use Rattle.value_laws.proofs.EventReads.{quiet, reads_after}
-use Rattle.value_laws.proofs.CoreHits.{rising_before, accesses_keep_values}
+use Rattle.value_laws.proofs.ReachedTurns.{values_kept, orders_noted, values_noted}
+use Rattle.value_laws.proofs.Sequences.{all_succeeding}
 use Rattle.value_laws.proofs.InOrderHits.{in_order_tries}
 
 -- ---- an event
-
--- of whatever cores, where each access follows those that its tile performed before
-pub values_kept : IsKept → MessageLaws → (b : Behaviour) (laws : KeepsLaws b) (d : Doc) (s new : ChipState) (event : Event) → DocLaws d
-    → StateHolds b laws d s → AreRising s.accesses
-    → AreRising new.accesses → ValuesHold d s → step b (chip_of d) s event ≡ Some new → ValuesHold d new
-values_kept kept messages b laws d s new event fits holds rising rises values e =
-    values_after messages b laws d s new fits holds (kept b laws d s new event fits.doc holds e) rising values
-    (accesses_keep_values b laws d s new holds.fit rises values) event (event_does b (chip_of d) s new event e)
 
 -- what holds of a chip of in-order cores
 pub record InOrderState (laws : KeepsLaws in_order) (d : Doc) (s : ChipState) : Type 0 where
@@ -69,33 +52,25 @@ state_kept kept in_turn messages laws d s new event fits is e =
     record {
       state = left;
       cores = cores;
-      values = values_kept kept messages in_order laws d s new event fits is.state rising rises is.values e;
+      values = values_kept kept messages in_order laws d s new event fits is.state (all_succeeding s.accesses rising) (all_succeeding new.accesses rises)
+          is.values e;
       reads = reads_after messages in_order laws d s new fits is.state left rising rises is.values is.reads
           (in_order_tries laws d s new fits.doc is.state.protocol is.state.fit) event (event_does in_order (chip_of d) s new event e);
     }
 
 -- ---- the event is noted
 
-module _ (laws : KeepsLaws in_order) (d : Doc) (s : ChipState) (event : Event) (fits : DocFits d) (is : InOrderState laws d s) where
-  same : OrdersNothing d s (noted event s)
-  same = record {
-    before = is.state.protocol;
-    behind = (noted_state in_order laws d s event is.state).protocol;
-    answers = (noted_state in_order laws d s event is.state).messages;
-    places = same_places s (noted event s) refl refl;
-  }
-
-  pub noted_holds : InOrderState laws d (noted event s)
-  noted_holds =
-      let tile = tile_of d s 0 is.state.protocol (tiles_some d fits) in
-      let change = no_change s (noted event s) 0 tile.unit tile.unit_at refl in
-      record {
-        state = noted_state in_order laws d s event is.state;
-        cores = noted_cores s event is.cores;
-        values = node_kept_values d s (noted event s) same is.values 0 tile.unit tile.unit change refl
-            (same_values d s (noted event s) refl) is.values.channels;
-        reads = quiet d s (noted event s) same is.reads 0 tile.unit tile.unit change (λ line only. only) refl refl;
-      }
+pub noted_holds : (laws : KeepsLaws in_order) (d : Doc) (s : ChipState) (event : Event) → DocFits d → InOrderState laws d s
+    → InOrderState laws d (noted event s)
+noted_holds laws d s event fits is =
+    let tile = tile_of d s 0 is.state.protocol (tiles_some d fits) in
+    record {
+      state = noted_state in_order laws d s event is.state;
+      cores = noted_cores s event is.cores;
+      values = values_noted in_order laws d s event fits is.state is.values;
+      reads = quiet d s (noted event s) (orders_noted in_order laws d s event fits is.state) is.reads 0 tile.unit tile.unit
+          (no_change s (noted event s) 0 tile.unit tile.unit_at refl) (λ line only. only) refl refl;
+    }
 
 -- ---- runs
 
@@ -110,49 +85,7 @@ state_reached kept in_turn messages laws d (event ∷ events) s last fits is e =
     let next = state_kept kept in_turn messages laws d s left event fits is stepped in
     state_reached kept in_turn messages laws d events new last fits (subst (InOrderState laws d) noted_is (noted_holds laws d left event fits.doc next)) rest)
 
--- ---- one instruction each
-
--- no two accesses are of one instruction
-pub numbers_apart : (d : Doc) (s : ChipState) → ProtocolHolds d s → CoresInOrder s → (i j : ℕ) (a b : Access) → i ≢ j → slice_get s.accesses i ≡ Some a
-    → slice_get s.accesses j ≡ Some b
-    → a.tile ≡ b.tile → a.number ≢ b.number
-numbers_apart d s holds cores i j a b away here there tile number = elim (cases_lt i j) [
-  | inl before ↦ (
-      let own = tile_of d s a.tile holds (holds.performers i a here) in
-      let less = ((cores a.tile own.unit own.unit_at).rising i j a b before here there refl (sym tile)).0 in
-      absurd (omega (arith, less, number)))
-  | inr beyond ↦ (
-      let own = tile_of d s a.tile holds (holds.performers i a here) in
-      let less = ((cores a.tile own.unit own.unit_at).rising j i b a (omega (arith, beyond, away)) there here (sym tile) refl).0 in
-      absurd (omega (arith, less, number)))
-]
-
 -- ---- what the laws say
-
--- before an event the accesses follow each other too
-with_access_rising : (xs : List Access) (o : Option Access) → AreRising (with_access o xs) → AreRising xs
-with_access_rising xs None rising = rising
-with_access_rising xs (Some a) rising = rising_before xs a rising
-
-earlier_rising : (b : Behaviour) (chip : Chip) (s new : ChipState) (event : Event) → EventDoes b chip s new event → AreRising new.accesses
-    → AreRising s.accesses
-earlier_rising b chip s new Tick does rising = subst AreRising does.accesses rising
-earlier_rising b chip s new (Core t) does rising = with_access_rising s.accesses (b.stepped does.unit).1 (subst AreRising does.accesses rising)
-earlier_rising b chip s new (Inject t) does rising = subst AreRising does.accesses rising
-earlier_rising b chip s new (Post t) does rising = subst AreRising does.accesses rising
-earlier_rising b chip s new (Take t) does rising = subst AreRising does.accesses rising
-earlier_rising b chip s new (Eject t) does rising = with_access_rising s.accesses (b.delivered does.request does.unit).1 (subst AreRising does.accesses rising)
-earlier_rising b chip s new (Send t) does rising = subst AreRising does.accesses rising
-earlier_rising b chip s new (Hop r port slot out) does rising = subst AreRising does.accesses rising
-earlier_rising b chip s new (DataHop r port slot) does rising = subst AreRising does.accesses rising
-earlier_rising b chip s new (DataEject r port slot) does rising = with_access_rising s.accesses (b.received does.msg does.unit).1
-    (subst AreRising does.accesses rising)
-
-pub values_step : IsKept → MessageLaws → (b : Behaviour) (laws : KeepsLaws b) (d : Doc) (s new : ChipState) (event : Event) → DocLaws d → StateHolds b laws d s
-    → AreRising new.accesses → ValuesHold d s → step b (chip_of d) s event ≡ Some new → ValuesHold d new
-values_step kept messages b laws d s new event fits holds rises values e =
-    values_kept kept messages b laws d s new event fits holds
-    (earlier_rising b (chip_of d) s new event (event_does b (chip_of d) s new event e) rises) rises values e
 
 pub state_opened : ((b : Behaviour) (laws : KeepsLaws b) (d : Doc) → DocFits d → StateHolds b laws d (opening d)) → ((d : Doc) → CoresInOrder (opening d))
     → (laws : KeepsLaws in_order) (d : Doc)

@@ -143,7 +143,8 @@ module _ (d : Doc) (s new : ChipState) (e : OrdersNothing d s new) (t : ℕ) (un
       }
 
   -- with one
-  module _ (a : Access) (place : ℕ) (words : List ℕ) (acts : ActsOn d s t unit a place words) (accesses : new.accesses ≡ s.accesses ++ a ∷ []) where
+  module _ (a : Access) (place : ℕ) (words : List ℕ) (acts : ActsOn d s t unit a place words)
+      (last : AllByRecursion (λ b. Follows b a) s.accesses) (accesses : new.accesses ≡ s.accesses ++ a ∷ []) where
     one_stays : (b : Access) → Follows b a → ReadHolds d s b → ReadHolds d new b
     one_stays b before holds = record {
       value = holds.value ∙ sym (
@@ -169,7 +170,7 @@ module _ (d : Doc) (s new : ChipState) (e : OrdersNothing d s new) (t : ℕ) (un
 
     pub reads_performed : DocFits d → line_of a.address < d.lines → ReadsHold d new
     reads_performed fits within i b at reads_it = elim (place_push s.accesses a b i (ap (λ (xs : List Access). slice_get xs i) (sym accesses) ∙ at)) [
-      | inl old ↦ one_stays b (each_at (λ x. Follows x a) s.accesses i b acts.follows old) (all i b old reads_it)
+      | inl old ↦ one_stays b (each_at (λ x. Follows x a) s.accesses i b last old) (all i b old reads_it)
       | inr same ↦ subst (ReadHolds d new) same (itself_received fits within (ap (λ (x : Access). reads x.kind) same ∙ reads_it))
     ]
 

@@ -43,7 +43,8 @@ settled_next ordered node line place writers orders other settled = record {
   ];
   demand = λ demand g stands is_ordered kind same. elim (cases_eq g place) [
     | inl here ↦ (let o = orders demand g stands is_ordered in
-        absurd (other (writer_of_kind line place ordered o.request GetM (subst (λ n. slice_get ordered n ≡ Some o.request) here o.at) (o.kind ∙ kind) (o.line ∙ same) ∙ ap Tile o.source)))
+        absurd (other (writer_of_kind line place ordered o.request GetM (subst (λ n. slice_get ordered n ≡ Some o.request) here o.at) (o.kind ∙ kind)
+        (o.line ∙ same) ∙ ap Tile o.source)))
     | inr away ↦ (let least : place ≤ g = settled.demand demand g stands is_ordered kind same in omega arith)
   ];
   modified = λ e. elim (cases_eq node.delivered (place + 1)) [

@@ -1,5 +1,5 @@
 -- A tile delivers the request of another tile: its copies keep their values, and the words that it sends answer the request.
-use Rattle.std.proofs.Common.{◌≡◌, ◌≢◌, ℕ, ◌+◌, Bool, true, false, cond, ◌==◌, Option, Some, None, List, ◌++◌, take, is_some, sym, ap, ◌∙◌, refl, subst, inl, inr, ◌⊎◌, arith}
+use Rattle.std.proofs.Common.{◌≡◌, ◌≢◌, ℕ, ◌+◌, Bool, true, false, cond, ◌==◌, Some, List, ◌++◌, take, is_some, sym, ap, ◌∙◌, refl, subst, inl, inr, ◌⊎◌, arith}
 use Rattle.std.specs.Prelude.{slice_get, not, ◌||◌}
 use Rattle.std.proofs.lemmas.Bool.{false≢true, true≢false}
 use Rattle.std.proofs.lemmas.Bool.Decides.{nat_tests}
@@ -42,6 +42,7 @@ use Rattle.value_laws.proofs.NextValues.{KeepsShared, same_shared, copy_next, ba
 use Rattle.value_laws.proofs.AnsweredValues.{records_next, supplied_open, home_sends}
 use Rattle.value_laws.proofs.OwnDeliveries.{delivered_node, of_append}
 use Rattle.value_laws.proofs.Snooping.{DemandStays, BecomesOwned, OfCopy, OfBack, Snooped, snooped_side}
+use Rattle.value_laws.proofs.CleanSteps.{snooped_clean}
 
 -- the node after its cache side met the request of another tile
 pub other_node : (q : Request) (node : Node) → q.source ≢ node.tile
@@ -113,17 +114,9 @@ module _ (d : Doc) (s new : ChipState) (e : OrdersNothing d s new) (values : Val
 
   unmodified : (line : ℕ) → is_modified (lookup after.node.chip after.node.side.cache line) ≡ true
       → is_modified (lookup unit.node.chip unit.node.side.cache line) ≡ true
-  unmodified line only = by (lookup after.node.chip after.node.side.cache line) refl only where
-    owned_state : (held : Held) → held.state ≡ O → is_modified (Some held) ≡ false
-    owned_state held is = ap (λ (x : State). is_modified (Some (record held { state = x }))) is
-
-    by : (copy : Option Held) → lookup after.node.chip after.node.side.cache line ≡ copy → is_modified copy ≡ true
-        → is_modified (lookup unit.node.chip unit.node.side.cache line) ≡ true
-    by None at is = absurd (false≢true is)
-    by (Some held) at is = elim (copy_from line held at) [
-      | inl stood ↦ ap is_modified stood ∙ is
-      | inr owned ↦ absurd (false≢true (sym (owned_state held owned.state) ∙ is))
-    ]
+  unmodified line only =
+      snooped_clean unit.node.chip unit.node.side q line
+      (ap (λ (x : Node). is_modified (lookup x.chip x.side.cache line)) (sym form) ∙ only)
 
   keeps : KeepsSettled d s new unit after
   keeps = quiet_keeps d s new e t unit after c accesses unmodified

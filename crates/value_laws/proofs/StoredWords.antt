@@ -25,8 +25,9 @@ use Rattle.chip_laws.proofs.Each.{each_from}
 use Rattle.chip_laws.proofs.OrderFrames.{known_of}
 use Rattle.chip_laws.proofs.OwnerFolds.{reads_only, all_read}
 use Rattle.chip_laws.proofs.SuppliedEvents.{unit_holds}
-use Rattle.value_laws.specs.Sequences.{AreRising}
-use Rattle.value_laws.proofs.Completion.{Completion, at_line, write_asks, with_access, own_before, follows, before_time}
+use Rattle.value_laws.specs.Sequences.{AreSucceeding}
+use Rattle.value_laws.proofs.Sequences.{before_time, all_succeed}
+use Rattle.value_laws.proofs.Completion.{Completion, at_line, write_asks, with_access, own_before, follows}
 use Rattle.value_laws.proofs.LineValues.{value_written, value_same}
 use Rattle.value_laws.proofs.OnlyWriters.{Only, AsksOnly, only_none, only_getm, only_gets, only_until}
 use Rattle.value_laws.proofs.PlacesOn.{value_until}
@@ -117,7 +118,7 @@ module _ (d : Doc) (s new : ChipState) (e : OrdersNothing d s new) (t : ℕ) (un
       (only_gets is.demand.line is.place ordered is.get is.at (is.kind ∙ kind) is.line) k above below)) is.has)
 
   -- ---- a store
-  module _ (kind : is.demand.kind ≡ GetM) (rising : AreRising s.accesses) (m : ℕ) (beyond : is.place < m) (inside : m ≤ after.node.delivered)
+  module _ (kind : is.demand.kind ≡ GetM) (turn : AreSucceeding s.accesses) (m : ℕ) (beyond : is.place < m) (inside : m ≤ after.node.delivered)
       (asks : AsksOnly (λ u. u ≡ t) is.demand.line is.place m ordered) where
     only : (k : ℕ) → is.place < k → k < m + 1 → Only (λ u. u ≡ t) (writer is.demand.line (take k ordered))
     only = only_until (λ u. u ≡ t) is.demand.line is.place m ordered (omega (arith, inside, within)) asks
@@ -155,7 +156,8 @@ module _ (d : Doc) (s new : ChipState) (e : OrdersNothing d s new) (t : ℕ) (un
     value : line_value d new.accesses is.demand.line m ≡ written_by is.demand.pending is.words
     value =
         ap (λ (xs : List Access). line_value d xs is.demand.line m) is.accesses
-        ∙ value_written d s.accesses is.access is.demand.line m rising (follows d s new t unit after e.before is) counts last
+        ∙ value_written d s.accesses is.access is.demand.line m turn
+        (all_succeed is.access s.accesses (follows d s new t unit after e.before is)) counts last
         ∙ ap (λ (ws : List ℕ). with_write ws is.access) (value_same d s.accesses is.demand.line m is.place same ∙ sym is.has.value)
         ∙ with_access d s new t unit after e.before is
 

@@ -13,8 +13,8 @@ ghost use Rattle.value_laws.specs.CoreRuns.{steps_done};
 
 use crate::{reached_access_laws, sequence_laws};
 
-/// Sequential consistency of a chip of in-order cores, for every document within its limits and every list of events. At
-/// run time it does nothing.
+/// Sequential consistency of a chip of in-order cores, for every document within its limits and every
+/// list of events. At run time it does nothing.
 pub fn consistency_laws()
     // What the chip has performed is, in sequence, a sequential execution of the first steps of the
     // programs.

@@ -10,7 +10,8 @@ ghost use Rattle.chip_model.specs.ChipInvariant.{CoresInOrder, ProtocolHolds};
 ghost use Rattle.chip_laws.specs.DocFits.{DocFits};
 ghost use Rattle.value_laws.specs.CoreRuns.{CoresRun};
 
-/// In-order cores by their accesses, in every state that a chip reaches. At run time it does nothing.
+/// In-order cores by their accesses, in every state that a chip reaches. At run time it does
+/// nothing.
 pub fn core_run_laws()
     // Each core is what its own accesses make of a new core, and has halted only where a halt is
     // next: at the opening, and each event keeps it; so along every run.

@@ -16,7 +16,7 @@ ghost use Rattle.chip_model.specs.Values.{HasValue, HasOwnValue};
 ghost use Rattle.chip_model.specs.Reports.{final_memory};
 ghost use Rattle.chip_model.specs.ChipInvariant.{ProtocolHolds};
 ghost use Rattle.chip_laws.specs.DocFits.{DocFits};
-ghost use Rattle.value_laws.specs.Sequences.{Follows, AreRising};
+ghost use Rattle.value_laws.specs.Sequences.{Succeeds, AreSucceeding};
 ghost use Rattle.value_laws.specs.CoreRuns.{steps_done};
 ghost use Rattle.value_laws.specs.Reads.{AccessesHold};
 
@@ -42,10 +42,10 @@ pub fn value_laws()
     // An access that is no write to the line up to the place changes nothing; the last such write
     // changes its word.
     ensures kept { (d : Doc) (accesses : List Access) (a : Access) (line place : ℕ)
-        → AllByRecursion (λ b. Follows b a) accesses → writes_by line place a ≡ false
+        → AllByRecursion (λ b. Succeeds b a) accesses → writes_by line place a ≡ false
         → line_value d (accesses ++ a ∷ []) line place ≡ line_value d accesses line place }
     ensures written { (d : Doc) (accesses : List Access) (a : Access) (line place : ℕ)
-        → AreRising accesses → AllByRecursion (λ b. Follows b a) accesses
+        → AreSucceeding accesses → AllByRecursion (λ b. Succeeds b a) accesses
         → writes_by line place a ≡ true
         → AllByRecursion (λ b. writes_by line place b ≡ true → is_before b a ≡ true) accesses
         → line_value d (accesses ++ a ∷ []) line place

@@ -1,6 +1,5 @@
 use Rattle.chip_model.specs.ChipState.{opening}
-use Rattle.chip_model.specs.ChipInvariant.{ProtocolHolds}
-use Rattle.value_laws.proofs.ReachedValues.{state_opened, state_kept, state_reached, numbers_apart, accesses_hold, of_accesses}
+use Rattle.value_laws.proofs.ReachedValues.{state_opened, state_kept, state_reached, accesses_hold, of_accesses}
 use Rattle.value_laws.proofs.values.reached_access_laws.Goals as goal
 
 pub returns : goal.returns
@@ -18,9 +17,7 @@ returns c =
           (runs.stepped d s new event is.chip.protocol is.chip.cores is.cores e);
       reached = λ d events s fits e.
           accesses_hold laws d s
-          (state_reached kept turns.stepped messages laws d events (opening d) s (requests d fits) (state_opened c.reachable_laws.ensures.opened turns.opened laws d fits) e)
+          (state_reached kept turns.stepped messages laws d events (opening d) s (requests d fits)
+          (state_opened c.reachable_laws.ensures.opened turns.opened laws d fits) e)
           (runs.reached d events s fits e);
-      numbers = λ d events s fits e.
-          let is = state_reached kept turns.stepped messages laws d events (opening d) s (requests d fits) (state_opened c.reachable_laws.ensures.opened turns.opened laws d fits) e in
-          numbers_apart d s is.state.protocol is.cores;
     }
