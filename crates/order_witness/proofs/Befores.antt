@@ -7,8 +7,11 @@ use Rattle.std.specs.Ordering.{nat_cmp, is_lt, ordering_then}
 use Rattle.std.proofs.lemmas.Bool.Decides.{nat_tests}
 use Rattle.report_text.specs.declared.access.Access.{Access}
 use Rattle.chip_model.specs.Witness.{is_before}
-use Rattle.value_laws.specs.Numbers.{is_of}
 use Rattle.order_witness.specs.Keys.{key_of, key_cmp}
+
+-- the access is of the instruction of this number of this tile
+abbrev pub is_of : ℕ → ℕ → Access → Bool
+is_of tile number a = (a.tile == tile) && (a.number == number)
 
 pub before_trans : (a b c : Access) → is_before a b ≡ true → is_before b c ≡ true → is_before a c ≡ true
 before_trans a b c first second = grind (arith, nat_tests, first, second)

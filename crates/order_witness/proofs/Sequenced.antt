@@ -1,16 +1,18 @@
 -- Accesses that are sorted by their keys are in sequence.
-use Rattle.std.proofs.Common.{◌≡◌, ℕ, suc, ◌+◌, ◌<◌, Bool, true, false, cond, List, [], ◌∷◌, length, get_or, refl, sym, ◌∙◌, ap, arith}
+use Rattle.std.proofs.Common.{◌≡◌, ◌≤◌, ℕ, suc, ◌+◌, ◌<◌, Bool, true, false, cond, List, [], ◌∷◌, length, get_or, refl, sym, ◌∙◌, ap, arith}
 use Rattle.std.specs.Prelude.{IsPermutation, IsSortedByKey}
 use Rattle.std.specs.List.{AllByRecursion, sum_by, count_by}
+use Rattle.std.specs.Prelude.{◌==◌, ◌&&◌}
+use Rattle.std.proofs.lemmas.Bool.{eqb-true}
 use Rattle.std.proofs.lemmas.Bool.Decides.{nat_tests}
 use Rattle.std.proofs.lemmas.List.Sums.{sum_by-cons}
 use Rattle.std.proofs.lemmas.List.Sorted.{sum_by-IsPermutation}
 use Rattle.core_isa.proofs.Elements.{AllByRecursion-map}
 use Rattle.report_text.specs.declared.access.Access.{Access}
 use Rattle.chip_model.specs.Witness.{is_before, inserted, in_sequence}
-use Rattle.value_laws.specs.Numbers.{is_of, IsOneEach}
+use Rattle.value_laws.specs.Sequences.{AllPairs, Differs}
 use Rattle.order_witness.specs.Keys.{key_of, key_cmp}
-use Rattle.order_witness.proofs.Befores.{before_trans, before_other, before_by_key}
+use Rattle.order_witness.proofs.Befores.{is_of, before_trans, before_other, before_by_key}
 use Rattle.order_witness.proofs.SameSums.{IsRising, same_lists}
 
 -- ---- sums stay where accesses are put in sequence
@@ -27,6 +29,10 @@ sum_in_sequence f [] = refl
 sum_in_sequence f (a ∷ xs) = omega (arith, sum_inserted f a (in_sequence xs), sum_in_sequence f xs, sum_by-cons f a xs)
 
 -- ---- accesses of which no two are of one instruction
+-- no instruction of a tile has two accesses
+abbrev IsOneEach : List Access → Type 0
+IsOneEach accesses = (tile number : ℕ) → count_by (is_of tile number) accesses ≤ 1
+
 none_counted : (p : Access → Bool) (xs : List Access) → count_by p xs ≡ 0 → AllByRecursion (λ b. p b ≡ false) xs
 none_counted p [] none = record {}
 none_counted p (b ∷ xs) none = (first (p b) refl, none_counted p xs (omega (arith, none, sum_by-cons (λ (x : Access). cond {A = ℕ} (p x) 1 0) b xs)))
@@ -37,6 +43,36 @@ none_counted p (b ∷ xs) none = (first (p b) refl, none_counted p xs (omega (ar
 
 own_instruction : (a : Access) → is_of a.tile a.number a ≡ true
 own_instruction a = grind (arith, nat_tests)
+
+parts : (tile number : ℕ) (a : Access) → is_of tile number a ≡ true → (a.tile ≡ tile) × (a.number ≡ number)
+parts tile number a own = by (a.tile == tile) (a.number == number) refl refl own
+  where
+    by : (one two : Bool) → (a.tile == tile) ≡ one → (a.number == number) ≡ two → (one && two) ≡ true → (a.tile ≡ tile) × (a.number ≡ number)
+    by true true one two both = (eqb-true a.tile tile one, eqb-true a.number number two)
+    by true false one two both = cc
+    by false two one is both = cc
+
+none_of : (tile number : ℕ) (a : Access) (xs : List Access) → is_of tile number a ≡ true → AllByRecursion (Differs a) xs → count_by (is_of tile number) xs ≡ 0
+none_of tile number a [] own differ = refl
+none_of tile number a (b ∷ xs) own differ =
+    let none : cond {A = ℕ} (is_of tile number b) 1 0 ≡ 0 = by (is_of tile number b) refl in
+    omega (arith, sum_by-cons (λ (x : Access). cond {A = ℕ} (is_of tile number x) 1 0) b xs, none, none_of tile number a xs own differ.1)
+  where
+    by : (same : Bool) → is_of tile number b ≡ same → cond {A = ℕ} same 1 0 ≡ 0
+    by false is = refl
+    by true is = absurd (let one = parts tile number a own in let two = parts tile number b is in differ.0 (one.0 ∙ sym two.0) (one.1 ∙ sym two.1))
+
+one_each : (xs : List Access) → AllPairs Differs xs → IsOneEach xs
+one_each [] differ tile number = omega arith
+one_each (a ∷ xs) differ tile number = by (is_of tile number a) refl (one_each xs differ.1 tile number)
+  where
+    by : (own : Bool) → is_of tile number a ≡ own → count_by (is_of tile number) xs ≤ 1 → count_by (is_of tile number) (a ∷ xs) ≤ 1
+    by false is rest =
+        let none : cond {A = ℕ} (is_of tile number a) 1 0 ≡ 0 = ap (λ (c : Bool). cond {A = ℕ} c 1 0) is in
+        omega (arith, sum_by-cons (λ (x : Access). cond {A = ℕ} (is_of tile number x) 1 0) a xs, none, rest)
+    by true is rest =
+        let one : cond {A = ℕ} (is_of tile number a) 1 0 ≡ 1 = ap (λ (c : Bool). cond {A = ℕ} c 1 0) is in
+        omega (arith, sum_by-cons (λ (x : Access). cond {A = ℕ} (is_of tile number x) 1 0) a xs, one, none_of tile number a xs is differ.0)
 
 others : (a : Access) (xs : List Access) → IsOneEach (a ∷ xs) → AllByRecursion (λ b. is_of a.tile a.number b ≡ false) xs
 others a xs one =
@@ -95,8 +131,9 @@ rising_sorted (a ∷ b ∷ xs) one sorted =
     later k d is = let next : suc k + 1 ≡ suc (k + 1) = omega arith in rw next at is
 
 -- ---- so they are in sequence
-pub sorted_in_sequence : (old new : List Access) → IsOneEach old → IsPermutation old new → IsSortedByKey key_of key_cmp new → new ≡ in_sequence old
-sorted_in_sequence old new one moved sorted =
+pub sorted_in_sequence : (old new : List Access) → AllPairs Differs old → IsPermutation old new → IsSortedByKey key_of key_cmp new → new ≡ in_sequence old
+sorted_in_sequence old new differ moved sorted =
+    let one : IsOneEach old = one_each old differ in
     let same : (f : Access → ℕ) → sum_by f new ≡ sum_by f old = λ f. sum_by-IsPermutation f old new moved in
     let each : IsOneEach new = λ tile number. omega (arith, one tile number, same (λ (x : Access). cond {A = ℕ} (is_of tile number x) 1 0)) in
     same_lists new (in_sequence old)
