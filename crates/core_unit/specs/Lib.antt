@@ -1,1 +1,3 @@
 pub mod Works
+pub mod Counts
+pub mod InOrderCounts

@@ -2,6 +2,7 @@ ghost use Rattle.std.specs.Prelude.{◌≡◌, ◌+◌, ◌^◌, ◌<◌, Some, 
 ghost use Rattle.chip_model.specs.Chip.{address_in};
 ghost use Rattle.chip_model.specs.Units.{in_order, core_event};
 ghost use Rattle.chip_laws.proofs.InOrderLaws.{in_order_laws};
+ghost use Rattle.core_unit.specs.InOrderCounts.{in_order_counts};
 ghost use Rattle.core_unit.specs.Works.{work_of};
 
 use crate::Unit;
@@ -57,6 +58,8 @@ impl Unit for InOrder {
     ghost behaviour = { in_order };
 
     ghost laws = { in_order_laws };
+
+    ghost counts = { in_order_counts };
 
     fn open(
         alloc: Global,

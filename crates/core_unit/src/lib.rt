@@ -8,4 +8,4 @@ mod unit;
 mod work;
 
 pub use in_order::InOrder;
-pub use unit::{Unit, kind_laws};
+pub use unit::{Unit, count_laws, kind_laws};

@@ -5,6 +5,7 @@ ghost use Rattle.chip_model.specs.Records.{LineRecord};
 ghost use Rattle.chip_model.specs.Node.{node_after_request, node_after_message, after_request_sent, after_message_sent};
 ghost use Rattle.chip_model.specs.Units.{UnitState, Behaviour, opening_unit};
 ghost use Rattle.chip_model.specs.BehaviourLaws.{KeepsLaws};
+ghost use Rattle.core_unit.specs.Counts.{CountsOne};
 ghost use Rattle.mem_ctrl.specs.Owners.{record_of};
 ghost use Rattle.mem_ctrl.specs.Waits.{TakesRequest};
 ghost use Rattle.snoop_core.specs.Requests.{OwnRequestFits, DataFits, ListHasRoom};
@@ -102,9 +103,17 @@ pub trait Unit: Sized + Send + Drop {
 
     /// Such units keep the laws of a behaviour.
     ghost laws: { KeepsLaws behaviour };
+
+    /// No call counts more than one instruction.
+    ghost counts: { CountsOne behaviour };
 }
 
 /// The laws of every kind of unit. At run time it does nothing.
 pub fn kind_laws<U: Unit>()
     ensures { KeepsLaws U.behaviour }
+{}
+
+/// How many instructions the steps of every kind of unit count. At run time it does nothing.
+pub fn count_laws<U: Unit>()
+    ensures { CountsOne U.behaviour }
 {}

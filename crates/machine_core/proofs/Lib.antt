@@ -1,0 +1,15 @@
+pub mod SlotPlaces
+pub mod SeenSteps
+pub mod StationEvents
+pub mod PossibleEvents
+pub mod Journals
+pub mod Counted
+pub mod MeetsCalls
+pub mod PrivateSteps
+pub mod FinishedMachines
+pub mod SlotTiles
+pub mod MachineSteps
+pub mod OwnersKeep
+pub mod Openings
+pub mod FirstEvents
+pub mod Reported

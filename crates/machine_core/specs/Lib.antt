@@ -1,0 +1,5 @@
+pub mod Stations
+pub mod Meetings
+pub mod Machine
+pub mod Slots
+pub mod FinalWords
