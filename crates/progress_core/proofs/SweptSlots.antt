@@ -100,6 +100,15 @@ module _ (b : Behaviour) (chip : Chip) (budget : ℕ) where
   stepped_within s new event (Ok x) less noted kept = omega (arith, less, ap length noted, length-append s.journal (event ∷ []))
   stepped_within s new event (Err e) less noted kept = omega (arith, less, ap (λ (x : ChipState). length x.journal) kept)
 
+-- what an answer says, by what follows of it
+pub map_ok : {X E : Type 0} (P Q : Type 0) (answer : Result X E) → (P → Q) → OnOk answer P → OnOk answer Q
+map_ok P Q (Ok x) f p = f p
+map_ok P Q (Err e) f p = tt
+
+pub map_err : {X E : Type 0} (P Q : Type 0) (answer : Result X E) → (P → Q) → OnErr answer P → OnErr answer Q
+map_err P Q (Ok x) f p = tt
+map_err P Q (Err e) f p = f p
+
 -- ---- sweep after sweep
 -- one more sweep
 pub sweeps_more : (b : Behaviour) (chip : Chip) (budget : ℕ) (s last : ChipState) (offsets : List ℕ) (offset : ℕ) → sweeps b chip budget s offsets ≡ last → AllAreMade b chip budget s offsets

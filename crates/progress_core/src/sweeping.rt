@@ -5,6 +5,7 @@ ghost use Rattle.chip_model.specs.Schedules.{slots, slot_count, swept};
 ghost use Rattle.pace_core.specs.Offsets.{AnswersBelow};
 ghost use Rattle.progress_core.specs.Sweeping.{SameMachine, SweepsBetween, SweepsOnce};
 
+use bound_laws::bound_laws;
 use core_unit::Unit;
 use machine_core::Machine;
 use pace_core::Pace;
@@ -20,8 +21,10 @@ pub fn sweep<U: Unit, F: Fn(u64, u32) -> u32>(
     requires below { AnswersBelow (F.pre pace.now) (F.post pace.now) }
     requires room { budget ≤ machine.old.room }
     requires within { length machine.old.state.journal ≤ budget }
-    ensures { SweepsOnce U.behaviour (F.post pace.now) k budget machine.old machine.new }
+    ensures swept { SweepsOnce U.behaviour (F.post pace.now) k budget machine.old machine.new }
+    ensures within { length machine.new.state.journal ≤ budget }
 {
+    machine.progresses();
     let slots = machine.slots();
     let offset = pace.offset(k, slots);
     sweep_between(machine, offset, slots, budget);
@@ -37,6 +40,7 @@ fn sweep_between<U: Unit>(machine: &mut Machine<U>, first: u32, last: u32, budge
     ensures swept { SweepsBetween U.behaviour budget first last machine.old machine.new }
     ensures within { length machine.new.state.journal ≤ budget }
 {
+    machine.progresses();
     for k in first..last {
         try_slot(machine, k, budget);
     }
@@ -54,6 +58,7 @@ fn try_slot<U: Unit>(machine: &mut Machine<U>, k: u32, budget: u32)
     ensures within { length machine.new.state.journal ≤ budget }
 {
     machine.progresses();
+    bound_laws();
     if machine.length() < u64::from(budget) {
         let event = machine.slot(k);
         let _done = machine.step(event);
