@@ -1,0 +1,4 @@
+pub mod Befores
+pub mod SameSums
+pub mod Sequenced
+pub mod Restored

@@ -1,0 +1,3 @@
+pub mod ForwardPrograms
+pub mod SweptSlots
+pub mod AnsweredSweeps

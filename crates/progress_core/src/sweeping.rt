@@ -1,0 +1,66 @@
+ghost use Rattle.std.specs.Prelude.{◌≡◌, ◌<◌, ◌≤◌, ◌∷◌, [], Some, length, slice_get};
+ghost use Rattle.report_text.specs.declared.event.Event.{Event};
+ghost use Rattle.chip_model.specs.Chip.{chip_of};
+ghost use Rattle.chip_model.specs.Schedules.{slots, slot_count, swept};
+ghost use Rattle.pace_core.specs.Offsets.{AnswersBelow};
+ghost use Rattle.progress_core.specs.Sweeping.{SameMachine, SweepsBetween, SweepsOnce};
+
+use bound_laws::bound_laws;
+use core_unit::Unit;
+use machine_core::Machine;
+use pace_core::Pace;
+
+/// Goes once through all slots from the pace's offset for this sweep, wrapping, and does each event that is possible, until the
+/// budget is spent.
+pub fn sweep<U: Unit, F: Fn(u64, u32) -> u32>(
+    machine: &mut Machine<U>,
+    pace: &Pace<F>,
+    k: u64,
+    budget: u32,
+)
+    requires below { AnswersBelow (F.pre pace.now) (F.post pace.now) }
+    requires room { budget ≤ machine.old.room }
+    requires within { length machine.old.state.journal ≤ budget }
+    ensures swept { SweepsOnce U.behaviour (F.post pace.now) k budget machine.old machine.new }
+    ensures within { length machine.new.state.journal ≤ budget }
+{
+    machine.progresses();
+    let slots = machine.slots();
+    let offset = pace.offset(k, slots);
+    sweep_between(machine, offset, slots, budget);
+    sweep_between(machine, 0, offset, budget);
+}
+
+// Goes through the slots from one up to another.
+fn sweep_between<U: Unit>(machine: &mut Machine<U>, first: u32, last: u32, budget: u32)
+    requires order { first ≤ last }
+    requires slots { last ≤ slot_count (chip_of machine.old.document) }
+    requires room { budget ≤ machine.old.room }
+    requires within { length machine.old.state.journal ≤ budget }
+    ensures swept { SweepsBetween U.behaviour budget first last machine.old machine.new }
+    ensures within { length machine.new.state.journal ≤ budget }
+{
+    machine.progresses();
+    for k in first..last {
+        try_slot(machine, k, budget);
+    }
+}
+
+// Does the event of a slot where it is possible and the budget is not spent.
+fn try_slot<U: Unit>(machine: &mut Machine<U>, k: u32, budget: u32)
+    requires slot { k < slot_count (chip_of machine.old.document) }
+    requires room { budget ≤ machine.old.room }
+    requires within { length machine.old.state.journal ≤ budget }
+    ensures same { SameMachine machine.old machine.new }
+    ensures tried { (event : Event) → slice_get (slots (chip_of machine.old.document)) k ≡ Some event
+        → machine.new.state ≡ swept U.behaviour (chip_of machine.old.document) budget
+        machine.old.state (event ∷ []) }
+    ensures within { length machine.new.state.journal ≤ budget }
+{
+    machine.progresses();
+    bound_laws();
+    if machine.length() < u64::from(budget) {
+        let event = machine.slot(k);
+        let _done = machine.step(event);
+    }
+}
