@@ -6,4 +6,6 @@ mod fabrics;
 #[cfg(test)]
 mod machines;
 #[cfg(test)]
+mod paces;
+#[cfg(test)]
 mod units;
