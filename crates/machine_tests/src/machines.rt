@@ -4,7 +4,7 @@
 use core_isa::{Instr, Program};
 use core_unit::InOrder;
 use doc_text::Document;
-use machine_core::{Machine};
+use machine_core::Machine;
 use mesh_gen::{Items, Mesh, NoMemory, NotEnabled, Port};
 use report_text::{Access, AccessKind, Event, Finish};
 use std::alloc::Global;
@@ -170,7 +170,10 @@ fn it_is_taken_apart_and_put_together(rt: HostRuntime) -> Result<(), Fail> {
     let mut machine = Machine::from_parts(machine.into_parts());
     step(&mut machine, Event::Core { t: 0 })?;
     let report = machine.into_report();
-    assert_eq!(rt; (report.journal.length(), report.memory.as_slice().len()), (2, 0));
+    assert_eq!(rt;
+        (report.journal.length(), report.memory.as_slice().len()),
+        (2, 0)
+    );
     assert_eq!(rt; report.ended, Finish::Budget);
     Ok(())
 }
