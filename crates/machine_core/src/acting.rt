@@ -20,8 +20,10 @@ impl<U: Unit> Station<U> {
         requires event { IsOfStation self.old.tile event }
         requires run { AreOfRun U.behaviour self.old fabric.old }
         requires room { event_count fabric.old + self.old.cores + 1 ≤ fabric.old.room }
-        ensures ok { OnOk result (IsDone U.behaviour event self.old fabric.old self.new fabric.new) }
-        ensures err { OnErr result (IsRefused U.behaviour fabric.old.chip event self.old fabric.old) }
+        ensures ok { OnOk result (IsDone U.behaviour event self.old fabric.old
+            self.new fabric.new) }
+        ensures err { OnErr result (IsRefused U.behaviour fabric.old.chip event
+            self.old fabric.old) }
         ensures kept { OnErr result (self.new ≡ self.old) }
         ensures fabric_kept { OnErr result (fabric.new ≡ fabric.old) }
     {
@@ -62,7 +64,8 @@ impl<U: Unit> Station<U> {
         requires meets { MeetsCalls LIST_PLACES QUEUE_PLACES self.old fabric.old }
         requires room { event_count fabric.old + self.old.cores + 1 ≤ fabric.old.room }
         ensures ok { OnOk result (IsDone U.behaviour Tick self.old fabric.old self.new fabric.new) }
-        ensures err { OnErr result (IsRefused U.behaviour fabric.old.chip Tick self.old fabric.old) }
+        ensures err { OnErr result (IsRefused U.behaviour fabric.old.chip Tick
+            self.old fabric.old) }
         ensures kept { OnErr result (self.new ≡ self.old) }
         ensures fabric_kept { OnErr result (fabric.new ≡ fabric.old) }
     {
@@ -74,8 +77,10 @@ impl<U: Unit> Station<U> {
     fn inject(&mut self, fabric: &mut Fabric) -> Result<(), NotEnabled>
         requires meets { MeetsCalls LIST_PLACES QUEUE_PLACES self.old fabric.old }
         requires room { event_count fabric.old + self.old.cores + 1 ≤ fabric.old.room }
-        ensures ok { OnOk result (IsDone U.behaviour (Inject self.old.tile) self.old fabric.old self.new fabric.new) }
-        ensures err { OnErr result (IsRefused U.behaviour fabric.old.chip (Inject self.old.tile) self.old fabric.old) }
+        ensures ok { OnOk result (IsDone U.behaviour (Inject self.old.tile)
+            self.old fabric.old self.new fabric.new) }
+        ensures err { OnErr result (IsRefused U.behaviour fabric.old.chip
+            (Inject self.old.tile) self.old fabric.old) }
         ensures kept { OnErr result (self.new ≡ self.old) }
         ensures fabric_kept { OnErr result (fabric.new ≡ fabric.old) }
     {
@@ -91,8 +96,10 @@ impl<U: Unit> Station<U> {
     fn post(&mut self, fabric: &mut Fabric) -> Result<(), NotEnabled>
         requires meets { MeetsCalls LIST_PLACES QUEUE_PLACES self.old fabric.old }
         requires room { event_count fabric.old + self.old.cores + 1 ≤ fabric.old.room }
-        ensures ok { OnOk result (IsDone U.behaviour (Post self.old.tile) self.old fabric.old self.new fabric.new) }
-        ensures err { OnErr result (IsRefused U.behaviour fabric.old.chip (Post self.old.tile) self.old fabric.old) }
+        ensures ok { OnOk result (IsDone U.behaviour (Post self.old.tile)
+            self.old fabric.old self.new fabric.new) }
+        ensures err { OnErr result (IsRefused U.behaviour fabric.old.chip
+            (Post self.old.tile) self.old fabric.old) }
         ensures kept { OnErr result (self.new ≡ self.old) }
         ensures fabric_kept { OnErr result (fabric.new ≡ fabric.old) }
     {
@@ -104,8 +111,10 @@ impl<U: Unit> Station<U> {
     fn take(&mut self, fabric: &mut Fabric) -> Result<(), NotEnabled>
         requires meets { MeetsCalls LIST_PLACES QUEUE_PLACES self.old fabric.old }
         requires room { event_count fabric.old + self.old.cores + 1 ≤ fabric.old.room }
-        ensures ok { OnOk result (IsDone U.behaviour (Take self.old.tile) self.old fabric.old self.new fabric.new) }
-        ensures err { OnErr result (IsRefused U.behaviour fabric.old.chip (Take self.old.tile) self.old fabric.old) }
+        ensures ok { OnOk result (IsDone U.behaviour (Take self.old.tile)
+            self.old fabric.old self.new fabric.new) }
+        ensures err { OnErr result (IsRefused U.behaviour fabric.old.chip
+            (Take self.old.tile) self.old fabric.old) }
         ensures kept { OnErr result (self.new ≡ self.old) }
         ensures fabric_kept { OnErr result (fabric.new ≡ fabric.old) }
     {
@@ -117,8 +126,10 @@ impl<U: Unit> Station<U> {
     fn eject(&mut self, fabric: &mut Fabric) -> Result<(), NotEnabled>
         requires meets { MeetsCalls LIST_PLACES QUEUE_PLACES self.old fabric.old }
         requires room { event_count fabric.old + self.old.cores + 1 ≤ fabric.old.room }
-        ensures ok { OnOk result (IsDone U.behaviour (Eject self.old.tile) self.old fabric.old self.new fabric.new) }
-        ensures err { OnErr result (IsRefused U.behaviour fabric.old.chip (Eject self.old.tile) self.old fabric.old) }
+        ensures ok { OnOk result (IsDone U.behaviour (Eject self.old.tile)
+            self.old fabric.old self.new fabric.new) }
+        ensures err { OnErr result (IsRefused U.behaviour fabric.old.chip
+            (Eject self.old.tile) self.old fabric.old) }
         ensures kept { OnErr result (self.new ≡ self.old) }
         ensures fabric_kept { OnErr result (fabric.new ≡ fabric.old) }
     {
@@ -131,8 +142,10 @@ impl<U: Unit> Station<U> {
     fn send(&mut self, fabric: &mut Fabric) -> Result<(), NotEnabled>
         requires meets { MeetsCalls LIST_PLACES QUEUE_PLACES self.old fabric.old }
         requires room { event_count fabric.old + self.old.cores + 1 ≤ fabric.old.room }
-        ensures ok { OnOk result (IsDone U.behaviour (Send self.old.tile) self.old fabric.old self.new fabric.new) }
-        ensures err { OnErr result (IsRefused U.behaviour fabric.old.chip (Send self.old.tile) self.old fabric.old) }
+        ensures ok { OnOk result (IsDone U.behaviour (Send self.old.tile)
+            self.old fabric.old self.new fabric.new) }
+        ensures err { OnErr result (IsRefused U.behaviour fabric.old.chip
+            (Send self.old.tile) self.old fabric.old) }
         ensures kept { OnErr result (self.new ≡ self.old) }
         ensures fabric_kept { OnErr result (fabric.new ≡ fabric.old) }
     {
@@ -154,8 +167,10 @@ impl<U: Unit> Station<U> {
     ) -> Result<(), NotEnabled>
         requires meets { MeetsCalls LIST_PLACES QUEUE_PLACES self.old fabric.old }
         requires room { event_count fabric.old + self.old.cores + 1 ≤ fabric.old.room }
-        ensures ok { OnOk result (IsDone U.behaviour (Hop self.old.tile port slot out) self.old fabric.old self.new fabric.new) }
-        ensures err { OnErr result (IsRefused U.behaviour fabric.old.chip (Hop self.old.tile port slot out) self.old fabric.old) }
+        ensures ok { OnOk result (IsDone U.behaviour
+            (Hop self.old.tile port slot out) self.old fabric.old self.new fabric.new) }
+        ensures err { OnErr result (IsRefused U.behaviour fabric.old.chip
+            (Hop self.old.tile port slot out) self.old fabric.old) }
         ensures kept { OnErr result (self.new ≡ self.old) }
         ensures fabric_kept { OnErr result (fabric.new ≡ fabric.old) }
     {
@@ -167,8 +182,10 @@ impl<U: Unit> Station<U> {
     fn data_hop(&mut self, fabric: &mut Fabric, port: Port, slot: u8) -> Result<(), NotEnabled>
         requires meets { MeetsCalls LIST_PLACES QUEUE_PLACES self.old fabric.old }
         requires room { event_count fabric.old + self.old.cores + 1 ≤ fabric.old.room }
-        ensures ok { OnOk result (IsDone U.behaviour (DataHop self.old.tile port slot) self.old fabric.old self.new fabric.new) }
-        ensures err { OnErr result (IsRefused U.behaviour fabric.old.chip (DataHop self.old.tile port slot) self.old fabric.old) }
+        ensures ok { OnOk result (IsDone U.behaviour
+            (DataHop self.old.tile port slot) self.old fabric.old self.new fabric.new) }
+        ensures err { OnErr result (IsRefused U.behaviour fabric.old.chip
+            (DataHop self.old.tile port slot) self.old fabric.old) }
         ensures kept { OnErr result (self.new ≡ self.old) }
         ensures fabric_kept { OnErr result (fabric.new ≡ fabric.old) }
     {
@@ -180,8 +197,10 @@ impl<U: Unit> Station<U> {
     fn data_eject(&mut self, fabric: &mut Fabric, port: Port, slot: u8) -> Result<(), NotEnabled>
         requires meets { MeetsCalls LIST_PLACES QUEUE_PLACES self.old fabric.old }
         requires room { event_count fabric.old + self.old.cores + 1 ≤ fabric.old.room }
-        ensures ok { OnOk result (IsDone U.behaviour (DataEject self.old.tile port slot) self.old fabric.old self.new fabric.new) }
-        ensures err { OnErr result (IsRefused U.behaviour fabric.old.chip (DataEject self.old.tile port slot) self.old fabric.old) }
+        ensures ok { OnOk result (IsDone U.behaviour
+            (DataEject self.old.tile port slot) self.old fabric.old self.new fabric.new) }
+        ensures err { OnErr result (IsRefused U.behaviour fabric.old.chip
+            (DataEject self.old.tile port slot) self.old fabric.old) }
         ensures kept { OnErr result (self.new ≡ self.old) }
         ensures fabric_kept { OnErr result (fabric.new ≡ fabric.old) }
     {

@@ -33,7 +33,8 @@ pub(crate) fn new_stations<U: Unit>(
     document: &Document,
 ) -> Result<Vec<Station<U>>, NoMemory>
     ensures { IfOk result (λ stations. stations.items
-        ≡ map (opening_station (doc_of document.now)) (upwards 0 (tile_count (chip_of (doc_of document.now))))) }
+        ≡ map (opening_station (doc_of document.now))
+        (upwards 0 (tile_count (chip_of (doc_of document.now))))) }
 {
     let mesh = &document.mesh;
     let programs = document.programs.as_slice();

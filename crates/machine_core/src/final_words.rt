@@ -23,7 +23,8 @@ pub(crate) fn final_memory<U: Unit>(
     requires { 4 * mesh.now.lines ≤ vec_capacity memory }
     ensures { (s : ChipState) → s.units ≡ units_of stations.now
         → (is_finished ≡ true → EachOwnerKeeps (chip_of_mesh mesh.now) s)
-        → result.items ≡ (if is_finished then flat_map (final_words (chip_of_mesh mesh.now) s) (upwards 0 mesh.now.lines) else []) }
+        → result.items ≡ (if is_finished then flat_map (final_words (chip_of_mesh mesh.now) s)
+        (upwards 0 mesh.now.lines) else []) }
 {
     memory.clear();
     if is_finished {

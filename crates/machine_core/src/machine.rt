@@ -180,7 +180,8 @@ impl<U: Unit> Machine<U> {
 
     /// The possible event of the lowest slot. There is none exactly where the machine is finished.
     pub fn first_enabled(&self) -> Option<Event>
-        ensures first { result ≡ find (enabled U.behaviour (chip_of self.now.document) self.now.state)
+        ensures first { result ≡ find (enabled U.behaviour
+            (chip_of self.now.document) self.now.state)
             (slots (chip_of self.now.document)) }
         ensures none { (result ≡ None) ↔ (finished self.now.state ≡ true) }
     {

@@ -42,7 +42,8 @@ impl<U: Unit> Station<U> {
     }
 
     fn can_inject(&self, fabric: &Fabric) -> bool
-        ensures { Tells U.behaviour fabric.now.chip (Inject self.now.tile) self.now fabric.now result }
+        ensures { Tells U.behaviour fabric.now.chip
+            (Inject self.now.tile) self.now fabric.now result }
     {
         match self.unit.node().wanted() {
             Some((kind, line)) => fabric.can_inject(self.made(), kind, line),
@@ -52,7 +53,8 @@ impl<U: Unit> Station<U> {
 
     fn can_send(&self, fabric: &Fabric) -> bool
         requires { MeetsCalls LIST_PLACES QUEUE_PLACES self.now fabric.now }
-        ensures { Tells U.behaviour fabric.now.chip (Send self.now.tile) self.now fabric.now result }
+        ensures { Tells U.behaviour fabric.now.chip
+            (Send self.now.tile) self.now fabric.now result }
     {
         match self.unit.node().next_out() {
             Some(msg) => fabric.can_send(self.made(), self.tile, msg),

@@ -89,7 +89,8 @@ fn finish_of(is_finished: bool) -> Finish
 // How many instructions each core has done.
 fn steps_done<U: Unit>(stations: &[Station<U>], mut steps: Vec<u64>) -> Vec<u64>
     requires { length stations.now ≤ vec_capacity steps }
-    ensures { result.items ≡ map (λ (station : StationState). station.unit.core.steps) stations.now }
+    ensures { result.items ≡ map (λ
+        (station : StationState). station.unit.core.steps) stations.now }
 {
     steps.clear();
     for station in stations {

@@ -21,7 +21,8 @@ impl Model for Rest {
 
     ghost view = { λ rest. doc_of rest.document };
 
-    ghost invariant = { λ rest. rest.document.mesh.cols * rest.document.mesh.rows ≤ vec_capacity rest.steps };
+    ghost invariant = { λ rest. rest.document.mesh.cols * rest.document.mesh.rows
+        ≤ vec_capacity rest.steps };
 }
 
 impl Rest {

@@ -98,7 +98,8 @@ fn hop_event(mesh: &Mesh, r: u8, j: u32) -> Event
 fn reply_channel(mesh: &Mesh, j: u32) -> (Port, u8)
     requires { j < 5 * mesh.now.data_vcs }
     ensures { (event : Port → ℕ → Event)
-        → slice_get (reply_events (chip_of_mesh mesh.now) event) j ≡ Some (event result.0 result.1) }
+        → slice_get (reply_events (chip_of_mesh mesh.now) event) j
+        ≡ Some (event result.0 result.1) }
 {
     let each = u32::from(mesh.data_vcs);
     (port_at(j / each), (j % each) as u8)

@@ -133,7 +133,8 @@ impl<U: Unit> Station<U> {
         requires tile { self.old.tile < tile_count fabric.old.chip }
         requires few { tile_count fabric.old.chip ≤ most_tiles }
         requires room { event_count fabric.old + self.old.cores ≤ fabric.old.room }
-        requires accesses { length fabric.old.accesses + length self.old.accesses ≤ fabric.old.room }
+        requires accesses { length fabric.old.accesses + length self.old.accesses
+            ≤ fabric.old.room }
         ensures station { self.new ≡ settled self.old }
         // The chip that is seen stays the same.
         ensures seen { (units : List UnitState)
@@ -151,9 +152,13 @@ impl<U: Unit> Station<U> {
 
     // The accesses go to the fabric.
     pub(crate) fn hand_over(&mut self, fabric: &mut Fabric)
-        requires accesses { length fabric.old.accesses + length self.old.accesses ≤ fabric.old.room }
+        requires accesses { length fabric.old.accesses + length self.old.accesses
+            ≤ fabric.old.room }
         ensures station { self.new ≡ record self.old { accesses = [] } }
-        ensures fabric { fabric.new ≡ record fabric.old { accesses = fabric.old.accesses ++ self.old.accesses } }
+        ensures fabric { fabric.new ≡ record fabric.old {
+          accesses = fabric.old.accesses ++
+              self.old.accesses;
+        } }
     {
         for access in self.accesses.iter() {
             fabric.note_access(*access);
@@ -167,9 +172,11 @@ impl<U: Unit> Station<U> {
         requires settled { IsSettled self.old }
         requires run { AreOfRun U.behaviour self.old fabric.old }
         requires room { event_count fabric.old + 1 ≤ fabric.old.room }
-        ensures ok { OnOk result (TakesChip U.behaviour fabric.old.chip event self.old fabric.old self.new fabric.new) }
+        ensures ok { OnOk result (TakesChip U.behaviour fabric.old.chip event
+            self.old fabric.old self.new fabric.new) }
         ensures done { OnOk result (StaysInPlace self.old fabric.old self.new fabric.new) }
-        ensures err { OnErr result (IsRefused U.behaviour fabric.old.chip event self.old fabric.old) }
+        ensures err { OnErr result (IsRefused U.behaviour fabric.old.chip event
+            self.old fabric.old) }
         ensures kept { OnErr result (self.new ≡ self.old) }
         ensures fabric_kept { OnErr result (fabric.new ≡ fabric.old) }
     {
@@ -184,9 +191,11 @@ impl<U: Unit> Station<U> {
         requires settled { IsSettled self.old }
         requires run { AreOfRun U.behaviour self.old fabric.old }
         requires room { event_count fabric.old + 1 ≤ fabric.old.room }
-        ensures ok { OnOk result (TakesChip U.behaviour fabric.old.chip (Core self.old.tile) self.old fabric.old self.new fabric.new) }
+        ensures ok { OnOk result (TakesChip U.behaviour fabric.old.chip
+            (Core self.old.tile) self.old fabric.old self.new fabric.new) }
         ensures done { OnOk result (StaysInPlace self.old fabric.old self.new fabric.new) }
-        ensures err { OnErr result (IsRefused U.behaviour fabric.old.chip (Core self.old.tile) self.old fabric.old) }
+        ensures err { OnErr result (IsRefused U.behaviour fabric.old.chip
+            (Core self.old.tile) self.old fabric.old) }
         ensures kept { OnErr result (self.new ≡ self.old) }
         ensures fabric_kept { OnErr result (fabric.new ≡ fabric.old) }
     {
