@@ -2,5 +2,11 @@ pub mod DeliveryLines
 pub mod Digits
 pub mod Following
 pub mod Forms
+pub mod Limits
 pub mod Lines
+pub mod Numbers
+pub mod PacedOffsets
+pub mod ReportTables
+pub mod ReportedRuns
+pub mod Runs
 pub mod Windows

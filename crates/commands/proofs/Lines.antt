@@ -1,10 +1,8 @@
 -- The line of `order`, piece by piece.
-use Rattle.std.proofs.Common.{◌≡◌, ℕ, Bool, true, false, List, [], ◌∷◌, ◌++◌, Option, refl, sym, ◌∙◌, ap, append_assoc, map, Result, Ok, Err}
-use Rattle.std.specs.Prelude.{codes, decimal, OnOk, OnErr}
+use Rattle.std.proofs.Common.{◌≡◌, ℕ, Bool, true, false, List, [], ◌∷◌, ◌++◌, refl, sym, ◌∙◌, ap, append_assoc, map}
+use Rattle.std.specs.Prelude.{codes, decimal}
 use Rattle.std.specs.List.{join_with_byte}
 use Rattle.std.proofs.lemmas.List.{append-nil}
-use Rattle.outside_io.specs.Streams.{Appends, AppendsPart}
-use Rattle.outside_io.proofs.Pieces.{Appends-nothing, Appends-then}
 use Rattle.commands.specs.Entries.{entry_text, entries_text, has_begun, rest_text}
 use Rattle.commands.specs.Line.{numbers_line}
 

@@ -1,7 +1,9 @@
+pub mod Arguments
 pub mod Deliveries
 pub mod Entries
 pub mod Input
 pub mod Line
 pub mod Outcome
+pub mod Steps
 pub mod Stops
 pub mod Texts

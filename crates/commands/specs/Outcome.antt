@@ -1,10 +1,15 @@
 -- What a command did, by the way it ended.
-use Rattle.std.specs.Prelude.{◌≡◌, ℕ, List, Option, IfSome, Result, Ok, Err}
+use Rattle.std.specs.Prelude.{◌≡◌, ◌≤◌, ℕ, List, length, Option, None, IfSome, Result, Ok, Err}
 use Rattle.outside_io.specs.Streams.{Stream, Rose, Appends, AppendsPart}
+use Rattle.report_text.specs.declared.report.Report.{Report}
+use Rattle.doc_text.specs.declared.document.Document.{Document}
+use Rattle.doc_text.specs.Doc.{Doc, doc_of}
+use Rattle.mesh_doc.specs.Reading.{reading}
 use Rattle.commands.specs.declared.command.Command.{Command}
 use Rattle.commands.specs.declared.stop.Stop.{Stop}
-use Rattle.commands.specs.declared.stop.Stop.TheVariants.{Usage, Document, ReadFault, WriteFault, NoMemory, TooLong}
-use Rattle.commands.specs.Input.{HasFault, WritesFor, WritesPartFor, IsTooLong}
+use Rattle.commands.specs.declared.stop.Stop.TheVariants.{Usage, Document as Faulty, ReadFault, WriteFault, NoMemory, TooLong}
+use Rattle.commands.specs.Input.{HasFault, WritesFor, WritesPartFor, IsTooLong, input_limit}
+use Rattle.commands.specs.Texts.{IsTextOf, HasReport}
 
 -- of writing a text: all of it, or a prefix after the sink failed, or nothing where there is no memory
 abbrev pub Wrote : Stream → List ℕ → Result Unit Stop → Type 0
@@ -21,12 +26,29 @@ WroteSome IsText sink (Err WriteFault) = ((text : List ℕ) × IsText text × Ap
 WroteSome IsText sink (Err NoMemory) = sink.new ≡ sink.old
 WroteSome IsText sink (Err _) = ⊥
 
--- of a command that reads a document and writes its text: what was written, and the cause of each refusal
-abbrev pub Ran : Command → Stream → Stream → Result Unit Stop → Type 0
-Ran command source sink (Ok done) = WritesFor command source.old sink.old sink.new
-Ran command source sink (Err Usage) = ⊥
-Ran command source sink (Err (Document fault)) = IfSome source.old (λ bytes. HasFault bytes fault) × (sink.new ≡ sink.old)
-Ran command source sink (Err ReadFault) = Rose source.before source.now × (sink.new ≡ sink.old)
-Ran command source sink (Err WriteFault) = WritesPartFor command source.old sink.old sink.new × Rose sink.before sink.now
-Ran command source sink (Err NoMemory) = sink.new ≡ sink.old
-Ran command source sink (Err TooLong) = IsTooLong source.old source.new × (sink.new ≡ sink.old)
+-- of a command that ran over a document, with this report or none
+abbrev pub Did : Command → Doc → Stream → Option Report → Result Unit Stop → Type 0
+Did command doc sink report (Ok done) = ((text : List ℕ) × IsTextOf command doc report text × Appends sink.old sink.new text) × HasReport command report
+Did command doc sink report (Err WriteFault) =
+    ((text : List ℕ) × IsTextOf command doc report text × AppendsPart sink.old sink.new text) × Rose sink.before sink.now × HasReport command report
+Did command doc sink report (Err NoMemory) = (sink.new ≡ sink.old) × (report ≡ None)
+Did command doc sink report (Err _) = ⊥
+
+-- of reading a document: it is that of the input, where this is told, or the cause of the refusal
+abbrev pub IsRead : Stream → Result Document Stop → Type 0
+IsRead source (Ok document) = IfSome source.old (λ bytes. (length bytes ≤ input_limit) × (reading bytes ≡ Ok (doc_of document)))
+IsRead source (Err (Faulty fault)) = IfSome source.old (λ bytes. HasFault bytes fault)
+IsRead source (Err ReadFault) = Rose source.before source.now
+IsRead source (Err NoMemory) = Unit
+IsRead source (Err TooLong) = IsTooLong source.old source.new
+IsRead source (Err _) = ⊥
+
+-- of a command that reads a document and writes its text: what was written, the report, and the cause of each refusal
+abbrev pub Ran : Command → Stream → Stream → Option Report → Result Unit Stop → Type 0
+Ran command source sink report (Ok done) = WritesFor command source.old report sink.old sink.new × HasReport command report
+Ran command source sink report (Err Usage) = ⊥
+Ran command source sink report (Err (Faulty fault)) = IfSome source.old (λ bytes. HasFault bytes fault) × (sink.new ≡ sink.old) × (report ≡ None)
+Ran command source sink report (Err ReadFault) = Rose source.before source.now × (sink.new ≡ sink.old) × (report ≡ None)
+Ran command source sink report (Err WriteFault) = WritesPartFor command source.old report sink.old sink.new × Rose sink.before sink.now × HasReport command report
+Ran command source sink report (Err NoMemory) = (sink.new ≡ sink.old) × (report ≡ None)
+Ran command source sink report (Err TooLong) = IsTooLong source.old source.new × (sink.new ≡ sink.old) × (report ≡ None)

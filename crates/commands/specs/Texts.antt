@@ -1,35 +1,39 @@
--- The commands: the arguments of each, and the text that each writes of a document.
-use Rattle.std.specs.Prelude.{◌≡◌, ℕ, List, [], ◌∷◌, Option, Some, None, Ok, codes, if◌then◌else◌}
-use Rattle.std.specs.Str.{bytes_eq}
+-- The text that each command writes of a document, and its report.
+use Rattle.std.specs.Prelude.{◌≡◌, ℕ, List, Option, Some, None, IsSome, Ok}
+use Rattle.report_text.specs.declared.report.Report.{Report}
+use Rattle.report_text.specs.Report.{report_text}
 use Rattle.doc_text.specs.Doc.{Doc}
 use Rattle.doc_text.specs.Canonical.{canonical}
 use Rattle.mesh_doc.specs.Reading.{reading}
 use Rattle.commands.specs.declared.command.Command.{Command}
-use Rattle.commands.specs.declared.command.Command.TheVariants.{Order, Show, Deliver}
+use Rattle.commands.specs.declared.command.Command.TheVariants.{Order, Show, Deliver, Step}
 use Rattle.commands.specs.Line.{order_text}
 use Rattle.commands.specs.Deliveries.{IsDelivered}
-
--- the arguments of a command
-abbrev pub argument_of : Command → List (List ℕ)
-argument_of Order = codes "order" ∷ []
-argument_of Show = codes "show" ∷ []
-argument_of Deliver = codes "deliver" ∷ []
+use Rattle.commands.specs.Steps.{IsReportOfSteps}
 
 -- the canonical text of a document, which is read back as the same document
 pub record IsShown (doc : Doc) (text : List ℕ) : Type 0 where
   pub canonical_is : text ≡ canonical doc
   pub read_back : reading text ≡ Ok doc
 
--- the text of a command for a document: that of its order, its canonical one, or that of what its broadcast delivers
-abbrev pub IsTextOf : Command → Doc → List ℕ → Type 0
-IsTextOf Order doc text = text ≡ order_text doc
-IsTextOf Show doc text = IsShown doc text
-IsTextOf Deliver doc text = IsDelivered doc text
+-- what a command that runs no machine writes of a document: its order, its canonical text, or what its broadcast delivers
+abbrev pub IsPlainTextOf : Command → Doc → List ℕ → Type 0
+IsPlainTextOf Order doc text = text ≡ order_text doc
+IsPlainTextOf Show doc text = IsShown doc text
+IsPlainTextOf Deliver doc text = IsDelivered doc text
+IsPlainTextOf (Step pace budget) doc text = ⊥
 
--- the command that one word is the form of
-abbrev pub named : List ℕ → Option Command
-named word =
-    if bytes_eq word (codes "order") then Some Order
-    else if bytes_eq word (codes "show") then Some Show
-    else if bytes_eq word (codes "deliver") then Some Deliver
-    else None
+-- the report of a command for a document: only `step` makes one
+abbrev pub IsReportOf : Command → Doc → Report → Type 0
+IsReportOf (Step pace budget) doc report = IsReportOfSteps pace budget doc report
+IsReportOf command doc report = ⊥
+
+-- the text of a command for a document, beside its report, where it has one: the text is then that of the report
+abbrev pub IsTextOf : Command → Doc → Option Report → List ℕ → Type 0
+IsTextOf command doc None text = IsPlainTextOf command doc text
+IsTextOf command doc (Some report) text = IsReportOf command doc report × (text ≡ report_text report)
+
+-- a command that ran a machine has a report, and no other has
+abbrev pub HasReport : Command → Option Report → Type 0
+HasReport (Step pace budget) report = IsSome report
+HasReport command report = report ≡ None

@@ -1,14 +1,16 @@
-ghost use Rattle.std.specs.Prelude.{◌≡◌, ◌≢◌, map, IfSome, IfNone};
+ghost use Rattle.std.specs.Prelude.{◌≡◌, map, IfSome};
 ghost use Rattle.outside_io.specs.Streams.{stream};
 ghost use Rattle.doc_text.specs.Doc.{doc_of};
-ghost use Rattle.commands.specs.Texts.{argument_of, named, IsTextOf};
-ghost use Rattle.commands.specs.Outcome.{Ran, WroteSome};
+ghost use Rattle.commands.specs.Arguments.{command_named, named, KeepsLimits};
+ghost use Rattle.commands.specs.Outcome.{Did, IsRead, Ran};
 ghost use Rattle.commands.specs.declared.command.Command.{Command};
 
-use crate::Stop;
 use crate::deliver::write_deliveries;
+use crate::options::{DEFAULT_BUDGET, StepOption};
 use crate::order::write_order;
 use crate::show::write_shown;
+use crate::step::write_steps;
+use crate::{Outcome, Stop};
 use mesh_doc::{Document, read_document};
 use outside_io::{Sink, Source, read_all};
 use std::alloc::Global;
@@ -25,61 +27,89 @@ pub enum Command {
     Show,
     /// Broadcasts the requests that the document posts, and writes what each tile delivers.
     Deliver,
+    /// Runs the document's programs, sweep after sweep by the pace of a number, and writes the report.
+    Step {
+        pace: u32,
+        /// How many events the run has at most.
+        budget: u32,
+    },
 }
 
 impl Command {
     /// The command that the arguments name, where they are one of the forms.
     pub fn of(words: &[&str]) -> Option<Command>
-        ensures some { IfSome result (λ command.
-            map (λ word. word.now) words.now ≡ argument_of command) }
-        ensures none { IfNone result ((command : Command)
-            → map (λ word. word.now) words.now ≢ argument_of command) }
+        ensures named { result ≡ command_named (map (λ word. word.now) words.now) }
+        ensures limits { IfSome result KeepsLimits }
     {
         match words {
             [word] => Command::named(word),
+            [word, name, number] if *word == "step" => {
+                Some(StepOption::named(name, number)?.alone())
+            }
+            [word, name, number, other_name, other_number] if *word == "step" => {
+                let option = StepOption::named(name, number)?;
+                option.beside(StepOption::named(other_name, other_number)?)
+            }
             _ => None,
         }
     }
 
-    // The command of this name.
+    // The command that one word is the form of.
     fn named(word: &str) -> Option<Command>
         ensures { result ≡ named word.now }
     {
-        if word == "order" {
-            Some(Command::Order)
-        } else if word == "show" {
-            Some(Command::Show)
-        } else if word == "deliver" {
-            Some(Command::Deliver)
-        } else {
-            None
+        match word {
+            "order" => Some(Command::Order),
+            "show" => Some(Command::Show),
+            "deliver" => Some(Command::Deliver),
+            "step" => Some(Command::Step {
+                pace: 0,
+                budget: DEFAULT_BUDGET,
+            }),
+            _ => None,
         }
     }
 
     /// Reads a document to its end, and writes what the command wants of it.
-    pub fn run<S: Source, K: Sink>(
-        self,
-        alloc: Global,
-        source: &mut S,
-        sink: &mut K,
-    ) -> Result<(), Stop>
+    pub fn run<S: Source, K: Sink>(self, alloc: Global, source: &mut S, sink: &mut K) -> Outcome
+        requires { KeepsLimits self }
         ensures { Ran self (stream S.left S.faults source.old source.new)
-            (stream K.held K.faults sink.old sink.new) result }
+            (stream K.held K.faults sink.old sink.new) result.report result.result }
     {
-        let bytes = read_all(alloc, source, INPUT_LIMIT)?;
-        let document = read_document(alloc, &bytes)?;
-        self.write(alloc, &document, sink)
-    }
-
-    // A text of the command for a document.
-    fn write<K: Sink>(self, alloc: Global, document: &Document, sink: &mut K) -> Result<(), Stop>
-        ensures { WroteSome (IsTextOf self (doc_of document.now))
-            (stream K.held K.faults sink.old sink.new) result }
-    {
-        match self {
-            Command::Order => write_order(alloc, document, sink),
-            Command::Show => write_shown(document, sink),
-            Command::Deliver => write_deliveries(alloc, document, sink),
+        match read_input(alloc, source) {
+            Ok(document) => self.write(alloc, document, sink),
+            Err(stop) => Outcome {
+                report: None,
+                result: Err(stop),
+            },
         }
     }
+
+    // A text of the command for a document, and its report.
+    fn write<K: Sink>(self, alloc: Global, document: Document, sink: &mut K) -> Outcome
+        requires { KeepsLimits self }
+        ensures { Did self (doc_of document) (stream K.held K.faults sink.old sink.new)
+            result.report result.result }
+    {
+        let result = match self {
+            Command::Order => write_order(alloc, &document, sink),
+            Command::Show => write_shown(&document, sink),
+            Command::Deliver => write_deliveries(alloc, &document, sink),
+            Command::Step { pace, budget } => {
+                return write_steps(alloc, document, pace, budget, sink);
+            }
+        };
+        Outcome {
+            report: None,
+            result,
+        }
+    }
+}
+
+// The document that comes from the source.
+fn read_input<S: Source>(alloc: Global, source: &mut S) -> Result<Document, Stop>
+    ensures { IsRead (stream S.left S.faults source.old source.new) result }
+{
+    let bytes = read_all(alloc, source, INPUT_LIMIT)?;
+    Ok(read_document(alloc, &bytes)?)
 }

@@ -4,9 +4,14 @@
 mod command;
 mod deliver;
 mod line;
+mod options;
 mod order;
+mod outcome;
 mod show;
+mod step;
 mod stop;
 
 pub use command::Command;
+pub use options::StepOption;
+pub use outcome::Outcome;
 pub use stop::Stop;

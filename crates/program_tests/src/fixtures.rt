@@ -1,10 +1,11 @@
+use commands::{Command, Outcome};
 use outside_io::{MemSink, MemSource};
 use std::alloc::{AllocError, Global};
 
 const CHUNK: u32 = 1 << 20;
 
 // What a sink has room for.
-const ROOM: usize = 4096;
+const ROOM: usize = 1 << 18;
 
 /// A source of these bytes, of whose calls these fail.
 pub(crate) fn input(alloc: Global, bytes: &[u8], fails: &[u32]) -> Result<MemSource, AllocError> {
@@ -18,4 +19,20 @@ pub(crate) fn input(alloc: Global, bytes: &[u8], fails: &[u32]) -> Result<MemSou
 /// A sink with room for a text, of whose calls these fail.
 pub(crate) fn output(alloc: Global, fails: &[u32]) -> Result<MemSink, AllocError> {
     Ok(MemSink::new(vec![in alloc; 0; ROOM]?, Vec::from_slice(alloc, fails)?))
+}
+
+/// How the command of these arguments ends over a document, and what it has written into a sink of whose calls these fail.
+pub(crate) fn done(
+    alloc: Global,
+    words: &[&str],
+    text: &str,
+    fails: &[u32],
+) -> Result<(Outcome, MemSink), AllocError> {
+    let Some(command) = Command::of(words) else {
+        return Err(AllocError);
+    };
+    let mut source = input(alloc, text.as_bytes(), &[])?;
+    let mut sink = output(alloc, fails)?;
+    let outcome = command.run(alloc, &mut source, &mut sink);
+    Ok((outcome, sink))
 }

@@ -12,4 +12,6 @@ mod outputs;
 #[cfg(test)]
 mod refusals;
 #[cfg(test)]
+mod steps;
+#[cfg(test)]
 mod streams;

@@ -1,4 +1,4 @@
-use crate::fixtures::{input, output};
+use crate::fixtures::{done, input, output};
 use commands::{Command, Stop};
 use std::alloc::{AllocError, Global};
 use std::test::Fail;
@@ -11,42 +11,38 @@ const ONE_TILE: &str =
     "[mesh]\ncols = 1\nrows = 1\nwindow = 1\nvcs = 1\ndata_vcs = 1\nlines = 1\nsets = 1\nways = 1\ncontrollers = [0]\n\n[[core]]\ntile = 0\ncode = '''\nli r1 7\nst r1 r0 2\nld r2 r0 2\nhalt\n'''\n";
 
 // What a command writes for a document.
-const TEXTS: [(Command, &str, &str); 10] = [
-    (Command::Order, FOUR_TILES, "0 3 1 3 2\n"),
+const TEXTS: [(&str, &str, &str); 10] = [
+    ("order", FOUR_TILES, "0 3 1 3 2\n"),
     (
-        Command::Order,
+        "order",
         "posts = [[3],[0,1,3]]\n[mesh]\ncols = 2\nrows = 2\nwindow = 2\n",
         "3 1 3 0\n",
     ),
     (
-        Command::Order,
+        "order",
         "posts = [[0],[0]]\nmesh = { cols = 1, rows = 1, window = 1 }\n",
         "0 0\n",
     ),
+    ("order", "mesh = { cols = 1, rows = 1, window = 1 }\n", "\n"),
+    ("order", ONE_TILE, "\n"),
     (
-        Command::Order,
-        "mesh = { cols = 1, rows = 1, window = 1 }\n",
-        "\n",
-    ),
-    (Command::Order, ONE_TILE, "\n"),
-    (
-        Command::Deliver,
+        "deliver",
         FOUR_TILES,
         "tile 0: 0 3 1 3 2\ntile 1: 0 3 1 3 2\ntile 2: 0 3 1 3 2\ntile 3: 0 3 1 3 2\n",
     ),
     (
-        Command::Deliver,
+        "deliver",
         "posts = [[2],[0,1]]\n[mesh]\ncols = 3\nrows = 1\nwindow = 2\n",
         "tile 0: 2 1 0\ntile 1: 2 1 0\ntile 2: 2 1 0\n",
     ),
     (
-        Command::Deliver,
+        "deliver",
         "mesh = { cols = 3, rows = 1, window = 2 }\n",
         "tile 0:\ntile 1:\ntile 2:\n",
     ),
-    (Command::Show, ONE_TILE, ONE_TILE),
+    ("show", ONE_TILE, ONE_TILE),
     (
-        Command::Show,
+        "show",
         "core = [{ code = \"tid r1#\\nw: jmp w\", tile = 1 }]\nposts = [[1,0]]\nmesh = { cols = 2, rows = 1, window = 64, memory = [0,5,0], lines = 1 }\n",
         "posts = [[1,0]]\n\n[mesh]\ncols = 2\nrows = 1\nwindow = 64\nvcs = 1\ndata_vcs = 1\nlines = 1\nsets = 4\nways = 1\ncontrollers = [0]\nmemory = [0,5]\n\n[[core]]\ntile = 1\ncode = '''\ntid r1\njmp @1\n'''\n",
     ),
@@ -56,9 +52,9 @@ const TEXTS: [(Command, &str, &str); 10] = [
 fn each_command_writes_its_text_with_ample_memory(rt: HostRuntime) -> Result<(), Fail> {
     let alloc = rt.alloc();
     for (command, text, written) in TEXTS {
-        let mut sink = output(alloc, &[])?;
-        let outcome = command.run(alloc, &mut input(alloc, text.as_bytes(), &[])?, &mut sink);
-        assert!(rt; outcome.is_ok(), "of {text}");
+        let (outcome, sink) = done(alloc, &[command], text, &[])?;
+        assert!(rt; outcome.result.is_ok(), "of {text}");
+        assert!(rt; outcome.report.is_none());
         assert_eq!(rt; sink.held(), written.as_bytes(), "of {text}");
     }
     Ok(())
@@ -104,10 +100,8 @@ fn lines_of_all(alloc: Global, tiles: u8, sources: &str) -> Result<String, Alloc
 fn every_tile_delivers_the_whole_order(rt: HostRuntime) -> Result<(), Fail> {
     let alloc = rt.alloc();
     for (text, tiles, sources) in ORDERS {
-        let mut source = input(alloc, text.as_bytes(), &[])?;
-        let mut sink = output(alloc, &[])?;
-        let outcome = Command::Deliver.run(alloc, &mut source, &mut sink);
-        assert!(rt; outcome.is_ok(), "of {text}");
+        let (outcome, sink) = done(alloc, &["deliver"], text, &[])?;
+        assert!(rt; outcome.result.is_ok(), "of {text}");
         let lines = lines_of_all(alloc, tiles, sources)?;
         assert_eq!(rt; sink.held(), lines.as_bytes(), "of {text}");
     }
@@ -115,20 +109,21 @@ fn every_tile_delivers_the_whole_order(rt: HostRuntime) -> Result<(), Fail> {
 }
 
 // What is held after the third write failed.
-const CUT_TEXTS: [(Command, &str); 3] = [
-    (Command::Order, "0 3"),
-    (Command::Deliver, "tile 0: 0"),
-    (Command::Show, "posts = [[0,3"),
+const CUT_TEXTS: [(&str, &str); 3] = [
+    ("order", "0 3"),
+    ("deliver", "tile 0: 0"),
+    ("show", "posts = [[0,3"),
 ];
 
 #[test]
 fn a_write_that_fails_leaves_a_prefix(rt: HostRuntime) -> Result<(), Fail> {
     let alloc = rt.alloc();
     for (command, written) in CUT_TEXTS {
-        let mut source = input(alloc, FOUR_TILES.as_bytes(), &[])?;
-        let mut sink = output(alloc, &[2])?;
-        let outcome = command.run(alloc, &mut source, &mut sink);
-        assert!(rt; matches!(&outcome, Err(Stop::WriteFault)), "of {written}");
+        let (outcome, sink) = done(alloc, &[command], FOUR_TILES, &[2])?;
+        assert!(rt;
+            matches!(&outcome.result, Err(Stop::WriteFault)),
+            "of {written}"
+        );
         assert_eq!(rt; sink.held(), written.as_bytes());
     }
     Ok(())
@@ -149,10 +144,10 @@ fn a_description_that_is_cut_is_shown_or_refused(rt: HostRuntime) -> Result<(), 
             let mut sink = output(alloc, &[])?;
             let outcome = Command::Show.run(alloc, &mut source, &mut sink);
             assert!(rt;
-                matches!(&outcome, Ok(()) | Err(Stop::Document(_))),
+                matches!(&outcome.result, Ok(()) | Err(Stop::Document(_))),
                 "at {length}"
             );
-            some_shown = some_shown || outcome.is_ok();
+            some_shown = some_shown || outcome.result.is_ok();
         }
         assert!(rt; some_shown);
     }

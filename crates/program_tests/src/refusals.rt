@@ -1,5 +1,5 @@
 use crate::fixtures::{input, output};
-use commands::{Command, Stop};
+use commands::{Command, Outcome, Stop};
 use std::alloc::{AllocError, Global};
 use std::test::Fail;
 
@@ -61,7 +61,8 @@ const SAID: [(&str, &str); 17] = [
 fn said(alloc: Global, text: &str) -> Result<String, AllocError> {
     let mut source = input(alloc, text.as_bytes(), &[])?;
     let mut sink = output(alloc, &[])?;
-    match Command::Show.run(alloc, &mut source, &mut sink) {
+    let Outcome { result, .. } = Command::Show.run(alloc, &mut source, &mut sink);
+    match result {
         Err(Stop::Document(fault)) => format!(in alloc; "{fault}"),
         Err(_) => Err(AllocError),
         Ok(()) => Ok(String::new(alloc)),
@@ -82,7 +83,7 @@ fn a_read_that_fails_ends_the_run(rt: HostRuntime) -> Result<(), Fail> {
     let mut source = input(alloc, b"posts = []", &[1])?;
     let mut sink = output(alloc, &[])?;
     let outcome = Command::Order.run(alloc, &mut source, &mut sink);
-    assert!(rt; matches!(&outcome, Err(Stop::ReadFault)));
+    assert!(rt; matches!(&outcome.result, Err(Stop::ReadFault)));
     assert!(rt; sink.held().is_empty());
     Ok(())
 }
@@ -96,7 +97,7 @@ fn shown_of_length(alloc: Global, length: usize) -> Result<Result<(), Stop>, All
     bytes.resize(length, b'\n')?;
     let mut source = input(alloc, &bytes, &[])?;
     let mut sink = output(alloc, &[])?;
-    Ok(Command::Show.run(alloc, &mut source, &mut sink))
+    Ok(Command::Show.run(alloc, &mut source, &mut sink).result)
 }
 
 #[test]

@@ -6,12 +6,13 @@ use Rattle.scorpio_cli.specs.declared.ended.Ended.{Ended}
 
 -- the forms of the words
 abbrev pub usage : List ℕ
-usage = codes "usage:\n  scorpio order\n  scorpio show\n  scorpio deliver"
+usage = codes "usage:\n  scorpio order\n  scorpio show\n  scorpio deliver\n  scorpio step [--pace n] [--budget n]"
 
 -- what is said of a status that comes without a fault of the document
 abbrev pub said_of : ℕ → List ℕ
 said_of status =
     if status == 1 then usage
+    else if status == 3 then codes "scorpio: budget spent"
     else if status == 4 then codes "scorpio: read failed"
     else if status == 5 then codes "scorpio: write failed"
     else if status == 6 then codes "scorpio: out of memory"

@@ -41,8 +41,8 @@ fn run<R: Read + Drop, W: Write + Drop>(
     let mut sink = StdSink::new(&mut output);
     let ended = top::scorpio(alloc, words, &mut source, &mut sink);
     drop(sink);
-    if ended.status == 0 && output.flush().is_err() {
-        return Ended::of(Err(Stop::WriteFault));
+    if matches!(ended.status, 0 | 3) && output.flush().is_err() {
+        return Ended { status: 5, ..ended };
     }
     ended
 }
@@ -54,8 +54,8 @@ fn out_of_memory(words: &[&str]) -> Ended
     ensures doc_fault { IsSome result.doc_fault ↔ (result.status ≡ 2) }
 {
     match Command::of(words) {
-        Some(_) => Ended::of(Err(Stop::NoMemory)),
-        None => Ended::of(Err(Stop::Usage)),
+        Some(_) => Ended::stopped(Stop::NoMemory),
+        None => Ended::stopped(Stop::Usage),
     }
 }
 
@@ -73,7 +73,7 @@ fn run_arguments(rt: &HostRuntime) -> Result<Ended, Stop> {
 fn main(rt: HostRuntime) -> ExitCode {
     let ended = match run_arguments(&rt) {
         Ok(ended) => ended,
-        Err(stop) => Ended::of(Err(stop)),
+        Err(stop) => Ended::stopped(stop),
     };
     if ended.status != 0 {
         // The status tells how it ended: a line that cannot be written is let go.

@@ -5,7 +5,8 @@ ghost use Rattle.scorpio_cli.specs.Messages.{said_of, message};
 use crate::ended::Ended;
 use std::fmt;
 
-const USAGE: &str = "usage:\n  scorpio order\n  scorpio show\n  scorpio deliver";
+const USAGE: &str =
+    "usage:\n  scorpio order\n  scorpio show\n  scorpio deliver\n  scorpio step [--pace n] [--budget n]";
 
 // What is said of a status that comes without a fault of the document.
 fn said_of(status: u8) -> &'static str
@@ -13,6 +14,7 @@ fn said_of(status: u8) -> &'static str
 {
     match status {
         1 => USAGE,
+        3 => "scorpio: budget spent",
         4 => "scorpio: read failed",
         5 => "scorpio: write failed",
         6 => "scorpio: out of memory",

@@ -47,7 +47,7 @@ fn other_words_are_no_form(rt: HostRuntime) -> Result<(), Fail> {
         assert_eq!(rt; ended.status, 1);
         assert_eq!(rt;
             format!(in alloc; "{ended}")?.as_str(),
-            "usage:\n  scorpio order\n  scorpio show\n  scorpio deliver"
+            "usage:\n  scorpio order\n  scorpio show\n  scorpio deliver\n  scorpio step [--pace n] [--budget n]"
         );
     }
     Ok(())
@@ -55,7 +55,7 @@ fn other_words_are_no_form(rt: HostRuntime) -> Result<(), Fail> {
 
 // What is said of an end.
 fn said(alloc: Global, stop: Stop) -> Result<String, AllocError> {
-    let ended = Ended::of(Err(stop));
+    let ended = Ended::stopped(stop);
     format!(in alloc; "{ended}")
 }
 

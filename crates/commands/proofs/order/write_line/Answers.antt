@@ -1,4 +1,4 @@
-use Rattle.std.proofs.Common.{false, ℕ, List, ◌≡◌, [], ◌∷◌, length, map, refl, ◌∙◌, ap, subst, arith, length-append}
+use Rattle.std.proofs.Common.{false, ℕ, List, ◌≡◌, [], ◌∷◌, length, map, refl, ◌∙◌, ap, arith, length-append}
 use Rattle.std.specs.Prelude.{slice_index}
 use Rattle.std.proofs.lemmas.List.{drop_all}
 use Rattle.mesh_gen.specs.TileSet.{set_of}
@@ -6,9 +6,7 @@ use Rattle.mesh_gen.proofs.TileSets.{set_of-positive, set_of-lt}
 use Rattle.order_tracker.specs.Order.{expansion, order_from}
 use Rattle.order_tracker.specs.Tracker.{TrackerState, left_of}
 use Rattle.order_tracker.proofs.Priorities.{length-expansion-le}
-use Rattle.commands.specs.Entries.{entries_text, rest_text}
-use Rattle.commands.specs.Line.{numbers_line}
-use Rattle.std.proofs.lemmas.Result.{on_ok_weaker, on_err_weaker}
+use Rattle.commands.specs.Entries.{rest_text}
 use Rattle.outside_io.proofs.Writes.{WritesAllBut-nothing, WritesAllBut-more, Writes-failed, Writes-last}
 use Rattle.commands.proofs.Lines.{numbers_line-rest}
 use Rattle.commands.proofs.Windows.{left_is_window, step_text, tiles_of_window, some_tile}

@@ -1,5 +1,11 @@
-use Rattle.commands.proofs.Forms.{one_word}
+use Rattle.std.proofs.Common.{sym, arith}
+use Rattle.commands.proofs.Forms.{no_form}
 use Rattle.commands.proofs.command.Command.of.Goals as goal
 
-pub returns-in-len1-clause-some : goal.returns-in-len1-clause-some
-returns-in-len1-clause-some c = rw c.named.ensures (one_word c.args.words.now _ c.in-len1.len_at_least c.in-len1.len_below)
+pub returns-in_default-2-clause-named : goal.returns-in_default-2-clause-named
+returns-in_default-2-clause-named c =
+    sym (no_form c.args.words.now (λ e. omega arith) (λ e. omega arith) (λ e. omega arith))
+
+pub returns-in_default-4-clause-named : goal.returns-in_default-4-clause-named
+returns-in_default-4-clause-named c =
+    sym (no_form c.args.words.now (λ e. omega arith) (λ e. omega arith) (λ e. omega arith))
