@@ -80,9 +80,12 @@ class Run:
         return self.owner(request.line, place) == request.source
 
     def is_sharer(self, request, place):
-        """Whether the tile has read the line before a place, does not own it, and no other tile has written since."""
-        own = [p for p, get in enumerate(self.requests[:place]) if get.is_get() and get.is_like(request)]
-        return bool(own) and not self.is_owner(request, place) and not self.writers(request, own[-1], place)
+        """Whether the tile's last request for the line before a place was a get, it does not own the line, and no other tile
+        has written since."""
+        own = [p for p, earlier in enumerate(self.requests[:place]) if earlier.is_like(request)]
+        if not own or not self.requests[own[-1]].is_get() or self.is_owner(request, place):
+            return False
+        return not self.writers(request, own[-1], place)
 
     def is_overtaken(self, travel):
         """Whether a GetM of another tile for the line is ordered after the request was made and before itself."""
