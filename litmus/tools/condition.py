@@ -18,8 +18,8 @@ class Location(NamedTuple):
         return f"[{self.word}]" if self.tile is None else f"{self.tile}:r{self.register}"
 
     def order(self):
-        """Registers come before words, by tile and number."""
-        return (self.tile is None, self.tile or 0, self.register or 0)
+        """Registers come before words; registers by tile and number, words by name."""
+        return (self.tile is None, self.tile or 0, self.register or 0, self.word or "")
 
 
 def location(text):
