@@ -34,13 +34,13 @@ class Test:
     def __init__(self, path):
         self.path = Path(path)
         self.name = self.path.stem
-        text = self.path.read_text(encoding="utf-8")
-        self.description = Description(text)
+        self.text = self.path.read_text(encoding="utf-8")
+        self.description = Description(self.text)
         self.words, self.races, self.condition = {}, [], None
         self._further = []
         listed = {heading: [] for heading in HEADINGS}
         heading = None
-        for line in claims(text):
+        for line in claims(self.text):
             if line in HEADINGS:
                 heading = line
             elif heading and line.endswith(";"):
