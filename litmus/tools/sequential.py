@@ -62,7 +62,8 @@ class Execution:
         if access is None:
             raise ValueError(f"{seen} comes after the core has halted")
         old = self.memory[access.address]
-        wanted = (self.steps[seen.tile], access.word, access.address, access.word_after(old), old if access.is_atomic() else None)
+        printed_old = old if access.is_atomic() else None
+        wanted = (self.steps[seen.tile], access.word, access.address, access.word_after(old), printed_old)
         if (seen.number, seen.word, seen.address, seen.value, seen.old) != wanted:
             raise ValueError(f"{seen} is no next step of a sequential execution")
         self.cores[seen.tile] = program.after_access(core, access, old)
