@@ -12,9 +12,10 @@ use Rattle.chip_model.specs.BehaviourLaws.{KeepsLaws}
 use Rattle.chip_model.specs.ChipInvariant.{ProtocolHolds, CoresInOrder}
 use Rattle.chip_laws.specs.DocFits.{DocFits}
 use Rattle.chip_laws.proofs.Options.{bind}
+use Rattle.chip_laws.proofs.EventSteps.{noted_after}
 use Rattle.supply_laws.specs.Reachable.{StateHolds}
 use Rattle.supply_laws.proofs.NotedStates.{noted_state, noted_cores}
-use Rattle.supply_laws.proofs.ReachedStates.{IsKept, AreKeptInOrder, noted_after}
+use Rattle.supply_laws.proofs.ReachedStates.{IsKept, AreKeptInOrder}
 use Rattle.bound_laws.specs.Measure.{answers_to_go, measure, Falls}
 
 -- the journal does not count

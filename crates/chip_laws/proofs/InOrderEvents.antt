@@ -23,11 +23,12 @@ use Rattle.chip_model.specs.UnitShape.{InOrderHolds}
 use Rattle.chip_model.specs.ChipInvariant.{CoresInOrder, ProtocolHolds}
 use Rattle.chip_laws.specs.InOrderUnits.{next_effect}
 use Rattle.chip_laws.specs.EventSteps.{ChangesUnit, CoreWorks, RequestEnters, RequestComes, MessageEnters, MessageComes, EventDoes}
+use Rattle.chip_laws.specs.Tiles.{TileOf}
 use Rattle.chip_laws.proofs.Options.{none_some, when_some, option_map_some}
 use Rattle.chip_laws.proofs.UnitFrames.{each_unit, same_units}
 use Rattle.chip_laws.proofs.StepAccesses.{Waits, delivered_goes, arrived_goes, request_waits}
 use Rattle.chip_laws.proofs.DoneTimes.{delivered_time, arrived_time, accessed_time}
-use Rattle.chip_laws.proofs.RequestsInside.{TileOf, tile_of, tile_of_unit}
+use Rattle.chip_laws.proofs.RequestsInside.{tile_of, tile_of_unit}
 use Rattle.chip_laws.proofs.InOrderCores.{IsNextAccess, HitsLate, step_in_order, node_in_order, others_in_order, core_in_order}
 
 -- ---- no node has performed an access later than its count

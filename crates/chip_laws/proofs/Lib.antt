@@ -51,3 +51,5 @@ pub mod Deliveries
 pub mod WaitingAccesses
 pub mod NetworkEvents
 pub mod OrderedTiles
+pub mod DeliveryCounts
+pub mod DoneUnits

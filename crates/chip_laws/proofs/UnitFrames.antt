@@ -1,5 +1,5 @@
 -- What an event does to units and nodes: it changes those of one tile at most, by one step.
-use Rattle.std.proofs.Common.{◌≡◌, ◌≢◌, ℕ, true, Some, List, slice_get, refl, sym, ap, ◌∙◌, subst, inl, inr, arith}
+use Rattle.std.proofs.Common.{◌≡◌, ◌≢◌, ℕ, true, Some, List, slice_get, refl, sym, ap, ◌∙◌, subst, ◌⊎◌, inl, inr, arith}
 use Rattle.std.proofs.lemmas.Bool.{cases_eq}
 use Rattle.std.proofs.lemmas.Option.{same_Some}
 use Rattle.report_text.specs.declared.event.Event.{Event}
@@ -23,15 +23,21 @@ changed_unit s new t unit after c = ap (λ (units : List UnitState). slice_get u
 pub other_unit : (s new : ChipState) (t u : ℕ) (unit after : UnitState) → ChangesUnit s new t unit after → u ≢ t → slice_get new.units u ≡ slice_get s.units u
 other_unit s new t u unit after c away = ap (λ (units : List UnitState). slice_get units u) c.units ∙ slice_get-set_other s.units u t after away
 
+-- a unit is the one that changed, or another one that was there
+pub unit_cases : (s new : ChipState) (t u : ℕ) (unit after other : UnitState) → ChangesUnit s new t unit after → slice_get new.units u ≡ Some other
+    → ((u ≡ t) × (after ≡ other)) ⊎ ((u ≢ t) × (slice_get s.units u ≡ Some other))
+unit_cases s new t u unit after other c is = elim (cases_eq u t) [
+  | inl same ↦ inl (same, same_Some after other (sym (changed_unit s new t unit after c) ∙ (ap (slice_get new.units) (sym same) ∙ is)))
+  | inr away ↦ inr (away, sym (other_unit s new t u unit after c away) ∙ is)
+]
+
 -- what holds of the new unit, and of each other one that was there, holds of each unit
 pub each_unit : (P : ℕ → UnitState → Type 0) (s new : ChipState) (t : ℕ) (unit after : UnitState) → ChangesUnit s new t unit after
     → P t after → ((u : ℕ) (other : UnitState) → u ≢ t → slice_get s.units u ≡ Some other → P u other)
     → (u : ℕ) (other : UnitState) → slice_get new.units u ≡ Some other → P u other
-each_unit P s new t unit after c here others u other is = elim (cases_eq u t) [
-  | inl same ↦ (
-      let is_after : after ≡ other = same_Some after other (sym (changed_unit s new t unit after c) ∙ (ap (slice_get new.units) (sym same) ∙ is)) in
-      subst (λ (n : ℕ). P n other) (sym same) (subst (P t) is_after here))
-  | inr away ↦ others u other away (sym (other_unit s new t u unit after c away) ∙ is)
+each_unit P s new t unit after c here others u other is = elim (unit_cases s new t u unit after other c is) [
+  | inl changed ↦ subst (λ (n : ℕ). P n other) (sym changed.0) (subst (P t) changed.1 here)
+  | inr was ↦ others u other was.0 was.1
 ]
 
 -- what holds of each unit that was there holds of each unit, where none changes

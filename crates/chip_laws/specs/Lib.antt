@@ -1,9 +1,12 @@
 pub mod DocFits
 pub mod DocLaws
+pub mod DeliveryCounts
+pub mod DoneUnits
 pub mod EventSteps
 pub mod InOrderUnits
 pub mod Meetings
 pub mod MessageLaws
 pub mod Parts
+pub mod Tiles
 pub mod WaitingAccesses
 pub mod QueuedMessages

@@ -1,7 +1,7 @@
 -- The journal of a run: a step leaves it, an event is noted at its end, and so it leads to the state after the event.
 use Rattle.std.specs.Prelude.{slice_get}
 use Rattle.std.proofs.Common.{◌≡◌, ◌+◌, List, [], ◌∷◌, ◌++◌, Option, Some, refl, sym, ◌∙◌, ap, subst}
-use Rattle.std.proofs.lemmas.Option.{same_Some}
+use Rattle.std.proofs.lemmas.Option.{option_and_then_some, same_Some}
 use Rattle.mesh_gen.specs.Partial.{when, ◌>>=◌}
 use Rattle.report_text.specs.declared.event.Event.{Event}
 use Rattle.report_text.specs.declared.event.Event.TheVariants.{Tick, Core, Inject, Post, Take, Eject, Send, Hop, DataHop, DataEject}
@@ -13,15 +13,14 @@ use Rattle.chip_model.specs.Misses.{wanted}
 use Rattle.chip_model.specs.Node.{after_request_sent, after_message_sent}
 use Rattle.chip_model.specs.OrderedNetwork.{after_inject, after_request_post, after_network_tick, after_vector_take, after_copy_hop, after_delivery}
 use Rattle.chip_model.specs.Replies.{after_send, after_data_hop, after_data_eject}
-use Rattle.chip_model.specs.Runs.{after, run}
-use Rattle.chip_laws.proofs.Options.{bind, when_some}
-use Rattle.supply_laws.proofs.ReachedStates.{noted_after}
+use Rattle.chip_model.specs.Runs.{noted, after, run}
+use Rattle.snoop_core.proofs.Options.{when_some}
 
 abbrev HasJournal : List Event → Option ChipState → Type 0
 HasJournal j o = (y : ChipState) → o ≡ Some y → y.journal ≡ j
 
 through : {X : Type 0} (j : List Event) (o : Option X) (f : X → Option ChipState) → ((x : X) → HasJournal j (f x)) → HasJournal j (o >>= f)
-through j o f each y e = bind o f y e (λ x is done. each x y done)
+through j o f each y e = option_and_then_some f o y e (λ x is done. each x y done)
 
 guarded : (j : List Event) (guard : _) (o : Option ChipState) → HasJournal j o → HasJournal j (when guard o)
 guarded j guard o has y e = when_some guard o y e (λ holds is. has y is)
@@ -76,9 +75,11 @@ step_journal b chip s (DataEject r port slot) =
 
 -- an event is noted at the end
 pub after_journal : (b : Behaviour) (chip : Chip) (s new : ChipState) (event : Event) → after b chip s event ≡ Some new → new.journal ≡ s.journal ++ event ∷ []
+unfolding after
 after_journal b chip s new event e =
-    let (left, stepped, is) = noted_after b chip s new event e in
-    ap (λ (x : ChipState). x.journal) (sym is) ∙ ap (λ (j : List Event). j ++ event ∷ []) (step_journal b chip s event left stepped)
+    option_and_then_some (λ left. Some (noted event left)) (step b chip s event) new e (λ left stepped done.
+    ap (λ (x : ChipState). x.journal) (sym (same_Some (noted event left) new done))
+    ∙ ap (λ (j : List Event). j ++ event ∷ []) (step_journal b chip s event left stepped))
 
 -- one event more at the end of a run
 pub run_more : (b : Behaviour) (chip : Chip) (events : List Event) (first s new : ChipState) (event : Event) → run b chip first events ≡ Some s
@@ -89,7 +90,7 @@ run_more b chip [] first s new event e next =
     let same : first ≡ s = same_Some first s e in
     subst (λ (x : ChipState). (after b chip x event >>= (λ y. run b chip y [])) ≡ Some new) (sym same) (ap (λ o. o >>= (λ y. run b chip y [])) next)
 run_more b chip (e0 ∷ events) first s new event e next =
-    bind (after b chip first e0) (λ y. run b chip y events) s e (λ y was rest.
+    option_and_then_some (λ y. run b chip y events) (after b chip first e0) s e (λ y was rest.
     ap (λ o. o >>= (λ y. run b chip y (events ++ event ∷ []))) was ∙ run_more b chip events y s new event rest next)
 
 -- where the journal leads to a state, it leads to the next one

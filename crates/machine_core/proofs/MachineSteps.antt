@@ -1,7 +1,7 @@
 -- An event of a machine is an event of one of its stations.
 use Rattle.std.proofs.Common.{◌≡◌, ℕ, zero, suc, ◌<◌, ◌≤◌, Bool, true, false, List, [], ◌∷◌, ◌++◌, Option, Some, None, length, refl, sym, ◌∙◌, ap, subst}
 use Rattle.std.proofs.Common.{arith, inl, inr, mul-pos}
-use Rattle.std.specs.Prelude.{slice_get, set, replicate, is_some, get_or, Result, Ok, Err, OnOk, OnErr}
+use Rattle.std.specs.Prelude.{slice_get, set, replicate, is_some, get_or, Contains, Result, Ok, Err, OnOk, OnErr}
 use Rattle.std.proofs.lemmas.Bool.{cases_eq}
 use Rattle.std.proofs.lemmas.List.{append-nil, length-map, map-set}
 use Rattle.std.proofs.lemmas.Option.{slice_get_within, slice_get-get_or, same_Some}
@@ -17,10 +17,9 @@ use Rattle.chip_model.specs.Units.{Behaviour}
 use Rattle.chip_model.specs.ChipState.{ChipState, opening}
 use Rattle.chip_model.specs.Events.{step}
 use Rattle.chip_model.specs.Runs.{noted, after, enabled, run}
-use Rattle.chip_model.specs.BehaviourLaws.{KeepsLaws}
-use Rattle.chip_laws.proofs.Options.{slice_get-set_same, slice_get-set_other}
-use Rattle.supply_laws.specs.Reachable.{StateHolds}
-use Rattle.progress_laws.proofs.EnabledSlots.{enabled_slot}
+use Rattle.chip_model.specs.Schedules.{slots}
+use Rattle.chip_model.specs.ChipInvariant.{ProtocolHolds}
+use Rattle.net_iface.proofs.Places.{slice_get-set_same, slice_get-set_other}
 use Rattle.fabric_core.specs.Fabric.{FabricState}
 use Rattle.machine_core.specs.Stations.{StationState, IsAtStation, IsRefused, IsSettled, StaysInPlace, TakesChip, Tells, chip_state, seen_by, tile_of, units_of}
 use Rattle.machine_core.specs.Meetings.{AreOfRun}
@@ -77,12 +76,11 @@ by_bool : {P : Type 0} (x : Bool) → (x ≡ true → P) → (x ≡ false → P)
 by_bool true yes_ no_ = yes_ refl
 by_bool false yes_ no_ = no_ refl
 
--- an event of no tile is not possible
-pub no_tile : (b : Behaviour) (laws : KeepsLaws b) (d : Doc) (s : ChipState) (e : Event) → StateHolds b laws d s → 0 < tile_count (chip_of d)
-    → length s.units ≤ tile_of e → false ≡ enabled b (chip_of d) s e
-no_tile b laws d s e holds some out = by_bool (enabled b (chip_of d) s e)
-    (λ possible. let inside = slot_tile (chip_of d) e some (enabled_slot b d s holds.protocol e possible) in absurd (omega
-    (arith, inside, out, holds.protocol.units)))
+-- an event of no tile is not possible, where each that is possible is one of the slots
+pub no_tile : (b : Behaviour) (d : Doc) (s : ChipState) (e : Event) → ProtocolHolds d s → 0 < tile_count (chip_of d)
+    → (enabled b (chip_of d) s e ≡ true → Contains (slots (chip_of d)) e) → length s.units ≤ tile_of e → false ≡ enabled b (chip_of d) s e
+no_tile b d s e holds some slot out = by_bool (enabled b (chip_of d) s e)
+    (λ possible. let inside = slot_tile (chip_of d) e some (slot possible) in absurd (omega (arith, inside, out, holds.units)))
     (λ not_possible. sym not_possible)
 
 none_of : {X : Type 0} (o : Option X) → is_some o ≡ false → o ≡ None
@@ -111,9 +109,9 @@ places_kept : (stations : List StationState) (t : ℕ) (st new : StationState) �
     → IsSettled new → AreInPlace (set stations t new)
 places_kept stations t st new places at tile settled u other here = elim (cases_eq u t) [
   | inl same ↦ (
-      let is : new ≡ other = same_Some new other (sym (slice_get-set_same stations t st new at) ∙ (ap (slice_get (set stations t new)) (sym same) ∙ here)) in
+      let is : new ≡ other = same_Some new other (sym (slice_get-set_same stations t new (slice_get_within stations t st at)) ∙ (ap (slice_get (set stations t new)) (sym same) ∙ here)) in
       subst (λ (x : StationState). (x.tile ≡ u) × IsSettled x) is (tile ∙ (places t st at).0 ∙ sym same, settled))
-  | inr away ↦ places u other (sym (slice_get-set_other stations u t new away) ∙ here)
+  | inr away ↦ places u other (sym (slice_get-set_other stations t u new away) ∙ here)
 ]
 
 -- the chip after the event

@@ -23,19 +23,17 @@ use Rattle.chip_model.specs.Runs.{run}
 use Rattle.chip_model.specs.BehaviourLaws.{KeepsLaws}
 use Rattle.chip_model.specs.ChipInvariant.{ProtocolHolds}
 use Rattle.chip_laws.specs.DocFits.{DocFits}
-use Rattle.chip_laws.proofs.RequestsInside.{tile_of, tile_of_unit}
 use Rattle.core_unit.specs.Counts.{CountsOne}
 use Rattle.supply_laws.specs.OpenGets.{DataAnswersGets}
 use Rattle.supply_laws.specs.Reachable.{StateHolds}
 use Rattle.supply_laws.specs.UnitCalls.{DeliveryFits, ArrivalFits}
-use Rattle.supply_laws.proofs.ReachedStates.{IsKept}
 use Rattle.fabric_core.specs.Fabric.{FabricState, event_count, MayNote, fabric_after_eject, fabric_after_data_eject}
 use Rattle.fabric_core.specs.Parts.{NetworksFit}
 use Rattle.machine_core.specs.Stations.{StationState, seen_by}
 use Rattle.machine_core.specs.Meetings.{AreOfRun, MeetsCalls}
 use Rattle.machine_core.proofs.SeenSteps.{set_there, made_by}
 use Rattle.machine_core.proofs.StationEvents.{SameRoom, delivery_came, arrival_came}
-use Rattle.machine_core.proofs.Counted.{reached_counted}
+use Rattle.machine_core.proofs.Counted.{EventLaws, reached_counted}
 
 -- what deliveries and arrivals meet, as the laws below say it
 abbrev pub DeliveriesMeet : ℕ → ℕ → Type 0
@@ -67,23 +65,25 @@ seen_length : (st : StationState) (fab : FabricState) (units : List UnitState) �
 seen_length st fab units = length-append (events_of fab.entries) (replicate st.cores (Core st.tile))
     ∙ ap (λ n. event_count fab + n) (length-replicate st.cores (Core st.tile))
 
-pub meets_calls : (places queue : ℕ) (b : Behaviour) (laws : KeepsLaws b) → CountsOne b → IsKept
+pub meets_calls : (places queue : ℕ) (b : Behaviour) (laws : KeepsLaws b) → CountsOne b
+    → ((d : Doc) → DocFits d → EventLaws b laws d)
     → ((d : Doc) → DocFits d → StateHolds b laws d (opening d))
     → ((d : Doc) (events : List Event) (s : ChipState) → DocFits d → run b (chip_of d) (opening d) events ≡ Some s → StateHolds b laws d s)
     → DeliveriesMeet places queue → ArrivalsMeet queue
     → (st : StationState) (fab : FabricState) → AreOfRun b st fab → 0 < tile_count fab.chip → event_count fab ≤ fab.room → st.cores ≤ 16
     → MeetsCalls places queue st fab
-meets_calls places queue b laws one kept opens reaches delivers arrives st fab of some room cores =
+meets_calls places queue b laws one events opens reaches delivers arrives st fab of some room cores =
     let d = of.document in
     let s = seen_by st fab of.units in
     let fits = of.within.fits in
     let holds = reaches d s.journal s fits of.reached in
-    let counted = reached_counted kept b laws one d s fits (opens d fits) of.reached in
+    let known = events d fits in
+    let counted = reached_counted b laws one d known s (opens d fits) of.reached in
     let long = seen_length st fab of.units in
     let at = set_there of.units st.tile st.unit of.there in
     let mine = counted.units st.tile st.unit at in
-    let inside : st.tile < tile_count (chip_of d) = tile_of_unit d s st.tile st.unit holds.protocol at in
-    let tile = tile_of d s st.tile holds.protocol inside in
+    let inside : st.tile < tile_count (chip_of d) = known.inside s st.tile st.unit holds.protocol at in
+    let tile = known.tile s st.tile holds.protocol inside in
     let node = holds.protocol.tiles st.tile tile.interface st.unit tile.interface_at at in
     record {
       networks = networks_of d s fab of.chip refl refl some of.within.tiles of.within.vcs of.within.data_vcs holds.protocol;

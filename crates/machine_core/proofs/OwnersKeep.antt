@@ -1,67 +1,46 @@
 -- In a finished chip the owner of each line keeps its words, and they are the final words.
-use Rattle.std.proofs.Common.{◌≡◌, ℕ, ◌<◌, Bool, true, false, ◌==◌, ◌||◌, List, [], Option, Some, None, is_some, option_map, unwrap_or, length, get_or, sym}
+use Rattle.std.proofs.Common.{◌≡◌, ℕ, ◌<◌, Bool, true, false, ◌==◌, ◌||◌, List, [], Option, Some, None, slice_get, is_some, option_map, unwrap_or, length, get_or, sym}
 use Rattle.std.proofs.Common.{ap, ◌∙◌, refl, subst, arith}
 use Rattle.std.proofs.lemmas.Bool.{eq-eqb, false≢true}
-use Rattle.std.proofs.lemmas.List.{take_all}
 use Rattle.mesh_gen.specs.declared.request.Request.{Request}
 use Rattle.doc_text.specs.Doc.{Doc}
 use Rattle.chip_model.specs.declared.owner.Owner.{Owner}
 use Rattle.chip_model.specs.declared.owner.Owner.TheVariants.{Memory, Tile}
 use Rattle.chip_model.specs.Chip.{Chip, chip_of, tile_count, home}
 use Rattle.chip_model.specs.Cache.{Held, lookup}
-use Rattle.chip_model.specs.Misses.{Demand, WriteBack}
 use Rattle.chip_model.specs.Records.{LineRecord}
-use Rattle.chip_model.specs.Node.{Node}
 use Rattle.chip_model.specs.Units.{UnitState}
-use Rattle.chip_model.specs.ChipState.{ChipState, finished}
-use Rattle.chip_model.specs.Ownership.{is_tile, owner, owns, is_owned_copy, is_live_back, is_open_write, delivered_to}
+use Rattle.chip_model.specs.ChipState.{ChipState}
+use Rattle.chip_model.specs.Ownership.{is_tile, owner, owns, is_owned_copy, delivered_to}
 use Rattle.chip_model.specs.Reports.{words_held, words_recorded, words_of_owner, final_words}
-use Rattle.chip_model.specs.ChipInvariant.{ProtocolHolds}
-use Rattle.chip_laws.specs.DocFits.{DocFits}
-use Rattle.chip_laws.proofs.NodeMessages.{home_inside}
-use Rattle.chip_laws.proofs.RequestsInside.{tile_of}
-use Rattle.chip_laws.proofs.OrderedTiles.{source_inside}
-use Rattle.supply_laws.proofs.OwnerGets.{owner_get}
-use Rattle.progress_laws.proofs.FinishedStates.{IsDone, finished_over}
+use Rattle.chip_laws.specs.DoneUnits.{IsDone}
+use Rattle.chip_laws.specs.Tiles.{TileOf}
 use Rattle.machine_core.specs.FinalWords.{HasCopy, IsKeptBy, OwnerKeeps, EachOwnerKeeps}
 
-all_delivered : (s : ChipState) (unit : UnitState) → IsDone s.network.ordered unit → delivered_to s.network.ordered unit.node ≡ s.network.ordered
-all_delivered s unit over = take_all unit.node.delivered s.network.ordered (omega (arith, over.delivered))
+-- what the laws below say of a chip: its tiles, its requests and, where it is finished, its units
+pub record ChipAtEnd (d : Doc) (s : ChipState) : Type 0 where
+  pub tile : (t : ℕ) → t < tile_count (chip_of d) → TileOf d s t
+  pub at_home : (line : ℕ) → home (chip_of d) line < tile_count (chip_of d)
+  pub inside : (line t : ℕ) → owner line s.network.ordered ≡ Tile t → t < tile_count (chip_of d)
+  pub done : (t : ℕ) (unit : UnitState) → slice_get s.units t ≡ Some unit → IsDone s.network.ordered unit
+  pub whole : (unit : UnitState) → IsDone s.network.ordered unit → delivered_to s.network.ordered unit.node ≡ s.network.ordered
+  pub copies : (unit : UnitState) (line : ℕ) → IsDone s.network.ordered unit
+      → owns unit.node.chip unit.node.side line ≡ is_owned_copy (lookup unit.node.chip unit.node.side.cache line)
 
 owned_held : (copy : Option Held) → is_owned_copy copy ≡ true → (held : Held) × (copy ≡ Some held)
 owned_held None e = absurd (false≢true e)
 owned_held (Some held) e = (held, refl)
 
--- a node without a demand and a write-back owns lines by its copies alone
-only_copies : (chip : Chip) (node : Node) (line : ℕ) → node.side.misses.demand ≡ None → node.side.misses.back ≡ None
-    → owns chip node.side line ≡ is_owned_copy (lookup chip node.side.cache line)
-unfolding owns
-only_copies chip node line no_demand no_back =
-    ap (λ (o : Option WriteBack). is_owned_copy (lookup chip node.side.cache line) || is_live_back line o || is_open_write line node.side.misses.demand) no_back
-    ∙ ap (λ (o : Option Demand). is_owned_copy (lookup chip node.side.cache line) || false || is_open_write line o) no_demand
-    ∙ neither (is_owned_copy (lookup chip node.side.cache line))
-  where
-    neither : (b : Bool) → (b || false || false) ≡ b
-    neither true = refl
-    neither false = refl
-
-owner_inside : (d : Doc) (s : ChipState) (line t : ℕ) → DocFits d → ProtocolHolds d s → owner line s.network.ordered ≡ Tile t → t < tile_count (chip_of d)
-owner_inside d s line t fits h is =
-    let all = take_all (length s.network.ordered) s.network.ordered (omega arith) in
-    let get = owner_get line t (length s.network.ordered) s.network.ordered (ap (owner line) all ∙ is) in
-    subst (λ (v : ℕ). v < tile_count (chip_of d)) get.source (source_inside d s get.place get.get fits h get.at)
-
 -- a tile that owns a line has it in its cache
-copy_there : (d : Doc) (s : ChipState) (line t : ℕ) → DocFits d → ProtocolHolds d s → finished s ≡ true → owner line s.network.ordered ≡ Tile t
-    → HasCopy (chip_of d) s line t
-copy_there d s line t fits h over is_owner =
-    let tile = tile_of d s t h (owner_inside d s line t fits h is_owner) in
+copy_there : (d : Doc) (s : ChipState) (line t : ℕ) → ChipAtEnd d s → owner line s.network.ordered ≡ Tile t → HasCopy (chip_of d) s line t
+copy_there d s line t known is_owner =
+    let tile = known.tile t (known.inside line t is_owner) in
     let holds = tile.holds in
-    let done = (finished_over d s fits h over).units t tile.unit tile.unit_at in
+    let done = known.done t tile.unit tile.unit_at in
     let owned : is_owned_copy (lookup tile.unit.node.chip tile.unit.node.side.cache line) ≡ true =
-    sym (only_copies tile.unit.node.chip tile.unit.node line done.demand done.back)
+    sym (known.copies tile.unit line done)
     ∙ holds.serves.owns.lines line
-    ∙ ap (λ (requests : List Request). is_tile tile.unit.node.tile (owner line requests)) (all_delivered s tile.unit done)
+    ∙ ap (λ (requests : List Request). is_tile tile.unit.node.tile (owner line requests)) (known.whole tile.unit done)
     ∙ ap (is_tile tile.unit.node.tile) is_owner
     ∙ eq-eqb t tile.unit.node.tile (sym holds.node.agrees.tile) in
     let (held, here) = owned_held (lookup tile.unit.node.chip tile.unit.node.side.cache line) owned in
@@ -71,29 +50,27 @@ record_there : (o : Option LineRecord) → is_some o ≡ true → (r : LineRecor
 record_there None e = absurd (false≢true e)
 record_there (Some r) e = (r, refl)
 
-kept_by : (d : Doc) (s : ChipState) (line : ℕ) → DocFits d → ProtocolHolds d s → finished s ≡ true → (o : Owner) → o ≡ owner line s.network.ordered
-    → IsKeptBy (chip_of d) s line o
-kept_by d s line fits h over Memory is = tt
-kept_by d s line fits h over (Tile t) is = copy_there d s line t fits h over (sym is)
+kept_by : (d : Doc) (s : ChipState) (line : ℕ) → ChipAtEnd d s → (o : Owner) → o ≡ owner line s.network.ordered → IsKeptBy (chip_of d) s line o
+kept_by d s line known Memory is = tt
+kept_by d s line known (Tile t) is = copy_there d s line t known (sym is)
 
-pub owners_keep : (d : Doc) (s : ChipState) → DocFits d → ProtocolHolds d s → finished s ≡ true → EachOwnerKeeps (chip_of d) s
-owners_keep d s fits h over line small =
-    let tile = tile_of d s (home (chip_of d) line) h (home_inside (chip_of d) line fits.chip.controllers) in
+pub owners_keep : (d : Doc) (s : ChipState) → ChipAtEnd d s → EachOwnerKeeps (chip_of d) s
+owners_keep d s known line small =
+    let tile = known.tile (home (chip_of d) line) (known.at_home line) in
     let holds = tile.holds in
-    let done = (finished_over d s fits h over).units (home (chip_of d) line) tile.unit tile.unit_at in
+    let done = known.done (home (chip_of d) line) tile.unit tile.unit_at in
     let within : line < tile.unit.node.chip.lines = subst (λ (chip : Chip). line < chip.lines) (sym holds.node.chip) small in
     let at_home : (home tile.unit.node.chip line == tile.unit.node.tile) ≡ true =
     eq-eqb (home tile.unit.node.chip line) tile.unit.node.tile (ap (λ (chip : Chip). home chip line) holds.node.chip ∙ sym holds.node.agrees.tile) in
     let (r, here) = record_there (get_or tile.unit.node.records line None) (holds.node.fits.lines.records line within ∙ at_home) in
-    let owner_is : r.owner ≡ owner line s.network.ordered = holds.serves.owns.records line r here ∙ ap (owner line) (all_delivered s tile.unit done) in
+    let owner_is : r.owner ≡ owner line s.network.ordered = holds.serves.owns.records line r here ∙ ap (owner line) (known.whole tile.unit done) in
     record {
       unit = tile.unit;
       unit_at = tile.unit_at;
       at_home = r;
       record_is = here;
       owner_is = owner_is;
-      kept = kept_by d s line fits h over r.owner
-          owner_is;
+      kept = kept_by d s line known r.owner owner_is;
     }
 
 -- the final words of a line that the memory owns, and of one that a tile owns

@@ -13,7 +13,6 @@ use Rattle.report_text.specs.declared.event.Event.{Event}
 use Rattle.report_text.specs.declared.event.Event.TheVariants.{Tick, Hop, DataHop, DataEject}
 use Rattle.chip_model.specs.Chip.{Chip, tile_count}
 use Rattle.chip_model.specs.Schedules.{output_ports, ports, hops_from, router_hops, reply_events, tile_slots, slots, slots_per_tile, slot_count}
-use Rattle.chip_laws.proofs.Options.{none_some}
 use Rattle.net_iface.proofs.Named.{slice_get-append_left, slice_get-append_right}
 use Rattle.machine_core.specs.Slots.{own_events}
 
@@ -31,7 +30,7 @@ length_flat f each same (x ∷ xs) =
 flat_at : {X Y : Type 0} (f : X → List Y) (each : ℕ) → AreAsLong f each → (xs : List X) (i j n : ℕ) (x : X) → slice_get xs i ≡ Some x → j < each
     → n ≡ i * each + j
     → slice_get (flat_map f xs) n ≡ slice_get (f x) j
-flat_at f each same [] i j n x at below is = none_some x at
+flat_at f each same [] i j n x at below is = cc
 flat_at f each same (z ∷ xs) zero j n x at below is =
     let first : n ≡ j = omega (arith, is, zero-mul each) in
     ap (λ list. slice_get list n) (flat_map-cons f z xs)
@@ -44,7 +43,7 @@ flat_at f each same (z ∷ xs) (suc i) j n x at below is =
     ∙ flat_at f each same xs i j (i * each + j) x at below refl
 
 map_at : {X Y : Type 0} (f : X → Y) (xs : List X) (k : ℕ) (x : X) → slice_get xs k ≡ Some x → slice_get (map f xs) k ≡ Some (f x)
-map_at f [] k x at = none_some x at
+map_at f [] k x at = cc
 map_at f (z ∷ xs) zero x at = ap (λ y. Some (f y)) (same_Some z x at)
 map_at f (z ∷ xs) (suc k) x at = map_at f xs k x at
 

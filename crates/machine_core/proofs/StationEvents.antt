@@ -17,14 +17,13 @@ use Rattle.chip_model.specs.Misses.{wanted}
 use Rattle.chip_model.specs.Node.{after_request_sent, after_message_sent}
 use Rattle.chip_model.specs.Units.{UnitState, Behaviour}
 use Rattle.chip_model.specs.Events.{step, unit_at}
-use Rattle.chip_laws.proofs.Options.{bind}
 use Rattle.fabric_core.specs.declared.made.Made.{Made}
 use Rattle.fabric_core.specs.Fabric.{FabricState, MayNote, with_network, with_replies, fabric_after_inject, fabric_after_post, fabric_after_tick}
 use Rattle.fabric_core.specs.Fabric.{fabric_after_take, fabric_after_hop, fabric_after_send, fabric_after_data_hop, fabric_after_eject}
 use Rattle.fabric_core.specs.Fabric.{fabric_after_data_eject}
 use Rattle.fabric_core.specs.Parts.{NetworksFit}
 use Rattle.fabric_core.proofs.Entries.{inject_valid, tick_valid, post_valid, take_valid, eject_valid, hop_valid, send_valid, data_hop_valid, data_eject_valid}
-use Rattle.std.proofs.lemmas.Option.{same_Some}
+use Rattle.std.proofs.lemmas.Option.{option_and_then_some, same_Some}
 use Rattle.machine_core.specs.Stations.{StationState, IsDone, IsRefused, settled}
 use Rattle.machine_core.proofs.SeenSteps.{Steps, set_twice, set_there, made_by, accesses_with, done_by, refused_by}
 
@@ -35,7 +34,7 @@ record Came {X Y : Type 0} (o : Option X) (f : X → Y) (y : Y) : Type 0 where
   made : f value ≡ y
 
 came : {X Y : Type 0} (o : Option X) (f : X → Y) (y : Y) → (o >>= (λ x. Some (f x))) ≡ Some y → Came o f y
-came o f y e = bind o (λ x. Some (f x)) y e (λ x was done. record { value = x; was = was; made = same_Some (f x) y done })
+came o f y e = option_and_then_some (λ x. Some (f x)) o y e (λ x was done. record { value = x; was = was; made = same_Some (f x) y done })
 
 none_came : {X Y : Type 0} (o : Option X) (f : X → Y) → (o >>= (λ x. Some (f x))) ≡ None → o ≡ None
 none_came None f e = refl

@@ -54,6 +54,9 @@ impl<U: Unit> Station<U> {
     {
         core_unit::kind_laws::<U>();
         core_unit::count_laws::<U>();
+        chip_laws::event_laws();
+        chip_laws::tile_laws();
+        chip_laws::access_laws();
         supply_laws::reachable_laws();
         supply_laws::meeting_laws();
         self.counted();

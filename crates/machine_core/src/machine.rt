@@ -151,6 +151,7 @@ impl<U: Unit> Machine<U> {
     {
         self.laws();
         core_unit::kind_laws::<U>();
+        progress_laws::chip_progress_laws();
         let at = usize::from(tile_of(e));
         if at >= self.stations.len() {
             return false;
@@ -171,6 +172,7 @@ impl<U: Unit> Machine<U> {
     {
         self.laws();
         core_unit::kind_laws::<U>();
+        progress_laws::chip_progress_laws();
         let at = usize::from(tile_of(e));
         if at >= self.stations.len() {
             return Err(NotEnabled);

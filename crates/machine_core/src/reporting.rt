@@ -72,6 +72,10 @@ impl<U: Unit> Machine<U> {
     {
         self.laws();
         core_unit::kind_laws::<U>();
+        chip_laws::tile_laws();
+        chip_laws::done_laws();
+        supply_laws::owner_laws();
+        progress_laws::chip_progress_laws();
     }
 }
 

@@ -25,6 +25,8 @@ use Rattle.chip_model.specs.ChipInvariant.{ProtocolHolds}
 use Rattle.net_iface.proofs.Orders.{order_split, length-order_from-ge, each_window}
 use Rattle.net_iface.proofs.Room.{length-ordered}
 use Rattle.chip_laws.specs.DocFits.{DocFits}
+use Rattle.chip_laws.specs.DoneUnits.{IsDone}
+use Rattle.chip_laws.proofs.DoneUnits.{done_of}
 use Rattle.chip_laws.proofs.RequestsInside.{tile_of}
 use Rattle.chip_laws.proofs.OrderedTiles.{tiles_some}
 use Rattle.supply_laws.proofs.GetPlaces.{get_drop}
@@ -33,6 +35,7 @@ use Rattle.flow_laws.specs.MessageMoves.{NoMessages}
 use Rattle.flow_laws.proofs.ListSums.{passes_at}
 use Rattle.flow_laws.proofs.OwedRequests.{ordered_le}
 use Rattle.flow_laws.proofs.NetworkMoves.{AllOrdered, rests}
+use Rattle.progress_laws.specs.Over.{IsOver}
 
 -- ---- what it is to have finished, part by part
 all_read : {X : Type 0} (p : X → Bool) (xs : List X) (d : X) → list_all p xs ≡ true → p d ≡ true → (k : ℕ) → p (get_or xs k d) ≡ true
@@ -50,38 +53,6 @@ no_messages net empty r p i =
     none_is : (o : Option Msg) → is_none o ≡ true → o ≡ None
     none_is None is = refl
     none_is (Some msg) is = cc
-
-pub record IsDone (ordered : List Request) (unit : UnitState) : Type 0 where
-  pub halted : unit.halted ≡ true
-  pub demand : unit.node.side.misses.demand ≡ None
-  pub back : unit.node.side.misses.back ≡ None
-  pub sends_not : unit.node.out ≡ []
-  pub delivered : unit.node.delivered ≡ length ordered
-
-no_entries : (node : Node) → waits_for_any node ≡ false → (node.side.misses.demand ≡ None) × (node.side.misses.back ≡ None)
-no_entries node none = by node.side.misses.demand node.side.misses.back none
-  where
-    by : (demand : Option Demand) (back : Option WriteBack) → (is_some demand || is_some back) ≡ false → (demand ≡ None) × (back ≡ None)
-    by None None none = (refl, refl)
-    by None (Some back) none = cc
-    by (Some demand) back none = cc
-
-done_parts : (ordered : List Request) (unit : UnitState) → is_done ordered unit ≡ true → IsDone ordered unit
-done_parts ordered unit done =
-    let parts = four unit.halted (waits_for_any unit.node) (is_nil unit.node.out) (unit.node.delivered == length ordered) done in
-    let none = no_entries unit.node parts.1 in
-    record { halted = parts.0; demand = none.0; back = none.1; sends_not = nil_is unit.node.out parts.2; delivered = eqb-true unit.node.delivered (length ordered) parts.3 }
-  where
-    four : (a b c e : Bool) → (a && not b && c && e) ≡ true → (a ≡ true) × (b ≡ false) × (c ≡ true) × (e ≡ true)
-    four true false true true all = (refl, refl, refl, refl)
-    four true false true false all = cc
-    four true false false e all = cc
-    four true true c e all = cc
-    four false b c e all = cc
-
-    nil_is : {X : Type 0} (xs : List X) → is_nil xs ≡ true → xs ≡ []
-    nil_is [] nil = refl
-    nil_is (x ∷ xs) nil = absurd (let none = eqb-true (length (x ∷ xs)) 0 nil in omega arith)
 
 abbrev AllDone : ChipState → Type 0
 AllDone s = (t : ℕ) (unit : UnitState) → slice_get s.units t ≡ Some unit → IsDone s.network.ordered unit
@@ -142,16 +113,11 @@ all_delivered d s fits holds done = record { taken = taken; delivered = delivere
         (requests.windows.taken t count there) (delivered t tile.interface tile.interface_at) (holds.network.took t count tile.interface tile.interface_at there)
 
 -- ---- so all has come to rest
-pub record IsOver (s : ChipState) : Type 0 where
-  pub units : (t : ℕ) (unit : UnitState) → slice_get s.units t ≡ Some unit → IsDone s.network.ordered unit
-  pub requests : NetworkRests s.network
-  pub replies : NoMessages s.replies
-
 pub finished_over : (d : Doc) (s : ChipState) → DocFits d → ProtocolHolds d s → finished s ≡ true → IsOver s
 unfolding finished
 finished_over d s fits holds ends =
     let parts = and_parts (list_all (is_done s.network.ordered) s.units) (is_empty s.replies) ends in
-    let done : AllDone s = λ t unit there. done_parts s.network.ordered unit (passes_at (is_done s.network.ordered) s.units parts.0 t unit there) in
+    let done : AllDone s = λ t unit there. done_of s.network.ordered unit (passes_at (is_done s.network.ordered) s.units parts.0 t unit there) in
     record {
       units = done;
       requests = rests (chip_of d) s.network fits.chip.tiles holds.network.requests (all_ordered d s fits holds done) (all_delivered d s fits holds done);

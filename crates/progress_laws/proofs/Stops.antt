@@ -37,7 +37,9 @@ use Rattle.net_iface.proofs.Steps.{after_delivery-unknown, after_delivery-absent
 use Rattle.chip_laws.specs.DocFits.{DocFits}
 use Rattle.chip_laws.proofs.OrderFrames.{holds_at}
 use Rattle.flow_laws.specs.NetworkMoves.{NetworkRests}
-use Rattle.progress_laws.proofs.FinishedStates.{IsDone, IsOver, finished_over}
+use Rattle.chip_laws.specs.DoneUnits.{IsDone}
+use Rattle.progress_laws.specs.Over.{IsOver}
+use Rattle.progress_laws.proofs.FinishedStates.{finished_over}
 
 -- ---- no tick, no post and no take
 posted_none : (net : OrderedNetwork) (t : ℕ) (interface : Interface) → interface.posted ≡ count_by_tile t net.ordered + cond (has_tile net.windows.posts t) 1 0
@@ -117,7 +119,7 @@ no_step b laws d s holds is (Eject t) =
     let here = holds_at d s holds t unit there in
     none_first (after_delivery (chip_of d) s.network t) _ (no_delivery (chip_of d) s.network t here.interface here.at is.requests))
 no_step b laws d s holds is (Send t) =
-    none_each (slice_get s.units t) _ (λ unit there. none_first (slice_get unit.node.out 0) _ (ap (λ (out : List Msg). slice_get out 0) (is.units t unit there).sends_not))
+    none_each (slice_get s.units t) _ (λ unit there. none_first (slice_get unit.node.out 0) _ (ap (λ (out : List Msg). slice_get out 0) (is.units t unit there).out))
 no_step b laws d s holds is (Hop r port slot out) =
     none_first (after_copy_hop (chip_of d) s.network r port slot out) _
     (after_copy_hop-none (chip_of d) s.network r port slot out (expected_at_next_hop (chip_of d) s.network r out) refl

@@ -9,6 +9,7 @@ ghost use Rattle.chip_model.specs.Schedules.{slots};
 ghost use Rattle.chip_model.specs.BehaviourLaws.{KeepsLaws};
 ghost use Rattle.chip_laws.specs.DocFits.{DocFits};
 ghost use Rattle.supply_laws.specs.Reachable.{StateHolds};
+ghost use Rattle.progress_laws.specs.Over.{IsOver};
 ghost use Rattle.progress_laws.specs.Possible.{SomeIsEnabled};
 
 use supply_laws::reachable_laws;
@@ -25,6 +26,10 @@ pub fn chip_progress_laws()
     ensures stops { (b : Behaviour) (laws : KeepsLaws b) (d : Doc) (s : ChipState)
         → DocFits d → StateHolds b laws d s → finished s ≡ true
         → (event : Event) → enabled b (chip_of d) s event ≡ false }
+
+    // Finished is: every unit is done, every request delivered, and nothing stands in a network.
+    ensures over { (b : Behaviour) (laws : KeepsLaws b) (d : Doc) (s : ChipState)
+        → DocFits d → StateHolds b laws d s → finished s ≡ true → IsOver s }
 
     // A possible event is one of the slots, so a chip of which no slot is possible is finished.
     ensures slot { (b : Behaviour) (laws : KeepsLaws b) (d : Doc) (s : ChipState)

@@ -30,12 +30,13 @@ use Rattle.mem_ctrl.specs.Waits.{Waits}
 use Rattle.snoop_core.specs.Requests.{OwnRequestFits}
 use Rattle.snoop_core.proofs.HoldingCases.{holding_open_write}
 use Rattle.chip_laws.specs.DocLaws.{DocLaws}
+use Rattle.chip_laws.specs.Tiles.{TileOf}
 use Rattle.chip_laws.proofs.Calls.{own_requests_fit}
 use Rattle.chip_laws.proofs.Deliveries.{deliveries_fit}
 use Rattle.chip_laws.proofs.NodeMessages.{RequestInside, SendsFit}
 use Rattle.chip_laws.proofs.NodeKeeps.{node_keeps, delivered_keeps}
 use Rattle.chip_laws.proofs.OrderFrames.{HoldsAt, holds_at}
-use Rattle.chip_laws.proofs.RequestsInside.{TileOf, tile_of, request_inside, sends_fit, waiters_inside}
+use Rattle.chip_laws.proofs.RequestsInside.{tile_of, request_inside, sends_fit, waiters_inside}
 use Rattle.chip_laws.proofs.SupplyAccounts.{is_memory, promised}
 use Rattle.chip_laws.proofs.SupplyCounts.{slice_of_index}
 use Rattle.chip_laws.proofs.SupplyDeliveries.{delivered_promises, supplier_here}

@@ -17,8 +17,9 @@ use Rattle.chip_model.specs.NodeShape.{SideFits}
 use Rattle.chip_model.specs.Suppliers.{delivered_at, writes_back, last, last_written_back, ReachesMemory, GetsWait, IsOpen}
 use Rattle.net_iface.proofs.Named.{slice_get-append_left}
 use Rattle.chip_laws.proofs.Supplied.{Grows}
+use Rattle.supply_laws.specs.OwnerGets.{OwnerGet}
 use Rattle.supply_laws.proofs.LastPlaces.{LastIs, NonePasses, passing, last_is}
-use Rattle.supply_laws.proofs.OwnerGets.{OwnerGet, BackOf, owner_get, back_of}
+use Rattle.supply_laws.proofs.OwnerGets.{BackOf, owner_get, back_of}
 use Rattle.supply_laws.proofs.Undelivered.{undelivered_get, undelivered_put}
 use Rattle.supply_laws.proofs.OpenGets.{open_get}
 use Rattle.supply_laws.proofs.Ticked.{TickedTile}

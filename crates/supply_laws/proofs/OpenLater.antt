@@ -22,12 +22,13 @@ use Rattle.chip_laws.specs.DocLaws.{DocLaws}
 use Rattle.chip_laws.proofs.NodeMessages.{home_inside}
 use Rattle.chip_laws.proofs.OrderFrames.{holds_at, known_of}
 use Rattle.chip_laws.proofs.RequestsInside.{tile_of, request_inside}
+use Rattle.supply_laws.specs.OwnerGets.{NoneFrom, OwnerGet}
 use Rattle.supply_laws.specs.OpenGets.{NoneWritesBackBefore}
 use Rattle.supply_laws.proofs.LastPlaces.{IsLastOf, LastIs, last_unique, next_unique}
 use Rattle.supply_laws.proofs.WriteBackPlaces.{last_of_all, last_before, next_after}
 use Rattle.supply_laws.proofs.ReachedWords.{IsDue, is_not_reached}
 use Rattle.supply_laws.proofs.LaterBacks.{IsOpenWrite, none_after_open}
-use Rattle.supply_laws.proofs.OwnerGets.{NoneFrom, OwnerGet, owner_get, memory_owns, back_of}
+use Rattle.supply_laws.proofs.OwnerGets.{owner_get, memory_owns, back_of}
 use Rattle.supply_laws.proofs.PlaceEvents.{EndsBy}
 use Rattle.supply_laws.proofs.PendingAnswers.{pending, recorded_pending, waits_among, OpenAt, to_come, reads_between, tile_supplies, never_ends}
 

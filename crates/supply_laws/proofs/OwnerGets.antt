@@ -1,5 +1,5 @@
 -- Where ownership of a line comes from: a tile owns it from its GetM, the memory from the last request that wrote it back.
-use Rattle.std.proofs.Common.{◌≡◌, ℕ, zero, suc, ◌+◌, ◌<◌, ◌≤◌, Bool, true, false, cond, refl, sym, ◌∙◌, ap, arith, inl, inr, ◌⊎◌, Option, Some, None, List, take, length}
+use Rattle.std.proofs.Common.{◌≡◌, ℕ, zero, suc, ◌+◌, ◌<◌, ◌≤◌, Bool, true, false, cond, refl, sym, ◌∙◌, ap, subst, arith, inl, inr, ◌⊎◌, Option, Some, None, List, take, length}
 use Rattle.std.specs.Prelude.{◌==◌, ◌&&◌, not, slice_get}
 use Rattle.std.proofs.lemmas.Bool.{false≢true, eq-eqb, eqb-true, cases_eq}
 use Rattle.std.proofs.lemmas.List.{take_all}
@@ -8,36 +8,20 @@ use Rattle.net_iface.proofs.Places.{item_at}
 use Rattle.mesh_gen.specs.declared.kind.Kind.{Kind}
 use Rattle.mesh_gen.specs.declared.kind.Kind.TheVariants.{GetS, GetM, PutM}
 use Rattle.mesh_gen.specs.declared.request.Request.{Request}
+use Rattle.doc_text.specs.Doc.{Doc}
 use Rattle.chip_model.specs.declared.owner.Owner.{Owner}
 use Rattle.chip_model.specs.declared.owner.Owner.TheVariants.{Memory, Tile}
+use Rattle.chip_model.specs.Chip.{chip_of, tile_count}
+use Rattle.chip_model.specs.ChipState.{ChipState}
 use Rattle.chip_model.specs.Ownership.{is_tile, owner_by, owner_after, owner}
 use Rattle.chip_model.specs.Bookkeeping.{is_get}
 use Rattle.chip_model.specs.Suppliers.{writes_back_as, writes_back}
+use Rattle.chip_model.specs.ChipInvariant.{ProtocolHolds}
+use Rattle.chip_laws.specs.DocFits.{DocFits}
 use Rattle.chip_laws.proofs.Options.{none_some}
+use Rattle.chip_laws.proofs.OrderedTiles.{source_inside}
 use Rattle.chip_laws.proofs.OwnerFolds.{owner_next}
-
--- from one place of the order on and below another no GetM asks for a line, and none writes it back
-pub record NoneFrom (line start below : ℕ) (ordered : List Request) : Type 0 where
-  pub gets : (k : ℕ) (q : Request) → start ≤ k → k < below → slice_get ordered k ≡ Some q → q.kind ≡ GetM → q.line ≡ line → ⊥
-  pub backs : (k : ℕ) → start ≤ k → k < below → writes_back line ordered k ≡ false
-
--- the GetM from which a tile owns a line below a place
-pub record OwnerGet (line v below : ℕ) (ordered : List Request) : Type 0 where
-  pub place : ℕ
-  pub get : Request
-  pub at : slice_get ordered place ≡ Some get
-  pub before : place < below
-  pub kind : get.kind ≡ GetM
-  pub source : get.source ≡ v
-  pub same : get.line ≡ line
-  pub last : NoneFrom line (place + 1) below ordered
-
--- the write-back from which the memory owns a line below a place
-pub record LastBack (line below : ℕ) (ordered : List Request) : Type 0 where
-  pub place : ℕ
-  pub before : place < below
-  pub back : writes_back line ordered place ≡ true
-  pub last : NoneFrom line (place + 1) below ordered
+use Rattle.supply_laws.specs.OwnerGets.{NoneFrom, OwnerGet, LastBack}
 
 -- the request that writes a line back at a place, and its tile, which owned the line
 pub record BackOf (line place : ℕ) (ordered : List Request) : Type 0 where
@@ -206,6 +190,13 @@ owner_get line v (suc n) ordered is = by (slice_get ordered n) refl (owner_get l
     }
     | inr stays ↦ get_longer line v n ordered (λ start. none_passed line start n ordered q at stays.1) (before stays.0)
   ]
+
+-- so the tile is one of the chip, as every one that asks
+pub owner_inside : (d : Doc) (s : ChipState) (line v : ℕ) → DocFits d → ProtocolHolds d s → owner line s.network.ordered ≡ Tile v → v < tile_count (chip_of d)
+owner_inside d s line v fits holds is =
+    let all = take_all (length s.network.ordered) s.network.ordered (omega arith) in
+    let get = owner_get line v (length s.network.ordered) s.network.ordered (ap (owner line) all ∙ is) in
+    subst (λ (u : ℕ). u < tile_count (chip_of d)) get.source (source_inside d s get.place get.get fits holds get.at)
 
 -- the memory owns a line from the last write-back, or because none asked to write it before
 pub memory_owns : (line below : ℕ) (ordered : List Request) → owner line (take below ordered) ≡ Memory → LastBack line below ordered ⊎ NoneFrom line 0 below ordered

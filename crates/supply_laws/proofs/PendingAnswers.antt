@@ -30,7 +30,7 @@ use Rattle.chip_laws.proofs.RequestsInside.{tile_of, source_inside}
 use Rattle.chip_laws.proofs.SupplyCounts.{count_by-cons, slice_of_index}
 use Rattle.chip_laws.proofs.SupplyRoom.{sum_by-part, one_answer}
 use Rattle.chip_laws.proofs.WaitsToCome.{count_by-some}
-use Rattle.supply_laws.proofs.OwnerGets.{OwnerGet}
+use Rattle.supply_laws.specs.OwnerGets.{OwnerGet}
 use Rattle.supply_laws.proofs.GetPlaces.{get_of, get_drop}
 use Rattle.supply_laws.proofs.PlaceEvents.{EndsBy}
 use Rattle.supply_laws.proofs.OpenGets.{open_get}

@@ -11,6 +11,7 @@ use Rattle.chip_model.specs.Runs.{noted, after, run}
 use Rattle.chip_model.specs.BehaviourLaws.{KeepsLaws}
 use Rattle.chip_model.specs.ChipInvariant.{ProtocolHolds, CoresInOrder}
 use Rattle.chip_laws.specs.DocFits.{DocFits}
+use Rattle.chip_laws.proofs.EventSteps.{noted_after}
 use Rattle.chip_laws.proofs.Options.{bind}
 use Rattle.supply_laws.specs.Reachable.{StateHolds}
 use Rattle.supply_laws.proofs.NotedStates.{noted_state, noted_cores}
@@ -19,11 +20,12 @@ use Rattle.supply_laws.proofs.NotedStates.{noted_state, noted_cores}
 abbrev pub IsKept : Type 0
 IsKept = (b : Behaviour) (laws : KeepsLaws b) (d : Doc) (s new : ChipState) (event : Event) → DocFits d → StateHolds b laws d s → step b (chip_of d) s event ≡ Some new → StateHolds b laws d new
 
--- an event leads to the state after its step, with the event in the journal
-pub noted_after : (b : Behaviour) (chip : Chip) (s new : ChipState) (event : Event) → after b chip s event ≡ Some new → (left : ChipState) × (step b chip s event ≡ Some left) × (noted event left ≡ new)
-unfolding after
-noted_after b chip s new event e =
-    bind (step b chip s event) (λ left. Some (noted event left)) new e (λ left stepped done. (left, stepped, same_Some (noted event left) new done))
+-- also where the event is noted
+pub noted_holds : IsKept → (b : Behaviour) (laws : KeepsLaws b) (d : Doc) (s new : ChipState) (event : Event) → DocFits d → StateHolds b laws d s → after b (chip_of d) s event ≡ Some new
+    → StateHolds b laws d new
+noted_holds kept b laws d s new event fits holds e =
+    let made = noted_after b (chip_of d) s new event e in
+    subst (StateHolds b laws d) made.2 (noted_state b laws d made.0 event (kept b laws d s made.0 event fits holds made.1))
 
 -- a run from a state of which it holds leads to one of which it holds
 pub run_holds : IsKept → (b : Behaviour) (laws : KeepsLaws b) (d : Doc) (events : List Event) (s last : ChipState) → DocFits d → StateHolds b laws d s
@@ -32,9 +34,7 @@ unfolding run
 run_holds kept b laws d [] s last fits holds e = subst (StateHolds b laws d) (same_Some s last e) holds
 run_holds kept b laws d (event ∷ events) s last fits holds e =
     bind (after b (chip_of d) s event) (λ new. run b (chip_of d) new events) last e (λ new first rest.
-    let made = noted_after b (chip_of d) s new event first in
-    let next = kept b laws d s made.0 event fits holds made.1 in
-    run_holds kept b laws d events new last fits (subst (StateHolds b laws d) made.2 (noted_state b laws d made.0 event next)) rest)
+    run_holds kept b laws d events new last fits (noted_holds kept b laws d s new event fits holds first) rest)
 
 -- the same of in-order cores, beside it
 abbrev pub AreKeptInOrder : Type 0
@@ -47,8 +47,6 @@ cores_run kept in_turn laws d [] s last fits holds cores e = subst CoresInOrder 
 cores_run kept in_turn laws d (event ∷ events) s last fits holds cores e =
     bind (after in_order (chip_of d) s event) (λ new. run in_order (chip_of d) new events) last e (λ new first rest.
     let made = noted_after in_order (chip_of d) s new event first in
-    let next = kept in_order laws d s made.0 event fits holds made.1 in
     let cores_next = in_turn d s made.0 event holds.protocol cores made.1 in
-    cores_run kept in_turn laws d events new last fits
-    (subst (StateHolds in_order laws d) made.2 (noted_state in_order laws d made.0 event next))
+    cores_run kept in_turn laws d events new last fits (noted_holds kept in_order laws d s new event fits holds first)
     (subst CoresInOrder made.2 (noted_cores made.0 event cores_next)) rest)

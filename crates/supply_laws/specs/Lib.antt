@@ -2,3 +2,4 @@ pub mod OpenGets
 pub mod HomeParts
 pub mod Reachable
 pub mod UnitCalls
+pub mod OwnerGets

@@ -4,8 +4,10 @@
 
 mod laws;
 mod meetings;
+mod owners;
 mod reachable;
 
 pub use laws::{get_laws, home_laws};
 pub use meetings::meeting_laws;
+pub use owners::owner_laws;
 pub use reachable::reachable_laws;

@@ -5,7 +5,7 @@ ghost use Rattle.chip_model.specs.Chip.{chip_of};
 ghost use Rattle.chip_model.specs.Units.{Behaviour, in_order};
 ghost use Rattle.chip_model.specs.ChipState.{ChipState, opening};
 ghost use Rattle.chip_model.specs.Events.{step};
-ghost use Rattle.chip_model.specs.Runs.{run};
+ghost use Rattle.chip_model.specs.Runs.{after, run};
 ghost use Rattle.chip_model.specs.BehaviourLaws.{KeepsLaws};
 ghost use Rattle.chip_model.specs.ChipInvariant.{CoresInOrder, ProtocolHolds};
 ghost use Rattle.chip_laws.specs.DocFits.{DocFits};
@@ -19,12 +19,15 @@ use chip_laws::{
 /// What holds in every state that a chip reaches, for every document, every kind of core that keeps its laws and every list
 /// of events. At run time it does nothing.
 pub fn reachable_laws()
-    // Of whatever cores: the opening, each event, and so every run.
+    // Of whatever cores: the opening, each event, also where it is noted in the journal, and so every run.
     ensures opened { (b : Behaviour) (laws : KeepsLaws b) (d : Doc) → DocFits d
         → StateHolds b laws d (opening d) }
     ensures kept { (b : Behaviour) (laws : KeepsLaws b) (d : Doc) (s new : ChipState)
         (event : Event) → DocFits d
         → StateHolds b laws d s → step b (chip_of d) s event ≡ Some new → StateHolds b laws d new }
+    ensures noted { (b : Behaviour) (laws : KeepsLaws b) (d : Doc) (s new : ChipState)
+        (event : Event) → DocFits d
+        → StateHolds b laws d s → after b (chip_of d) s event ≡ Some new → StateHolds b laws d new }
     ensures reached { (b : Behaviour) (laws : KeepsLaws b) (d : Doc) (events : List Event)
         (s : ChipState) → DocFits d
         → run b (chip_of d) (opening d) events ≡ Some s → StateHolds b laws d s }

@@ -23,7 +23,7 @@ use Rattle.snoop_core.proofs.Accesses.{accessed_frame}
 use Rattle.chip_laws.specs.DocLaws.{DocLaws}
 use Rattle.chip_laws.specs.EventSteps.{CoreWorks, RequestComes, EventDoes}
 use Rattle.chip_laws.proofs.Deliveries.{deliveries_fit}
-use Rattle.chip_laws.proofs.EventSteps.{event_does}
+use Rattle.chip_laws.proofs.EventSteps.{event_does, noted_after}
 use Rattle.chip_laws.proofs.Options.{bind}
 use Rattle.chip_laws.proofs.OrderGrows.{order_grows, delivered_order}
 use Rattle.chip_laws.proofs.OrderLists.{take_next}
@@ -31,7 +31,7 @@ use Rattle.chip_laws.proofs.SuppliedEvents.{unit_holds, delivered_within}
 use Rattle.chip_laws.proofs.SupplyFrames.{same_counts, count_here, count_there}
 use Rattle.supply_laws.specs.Reachable.{StateHolds}
 use Rattle.supply_laws.proofs.NotedStates.{noted_state}
-use Rattle.supply_laws.proofs.ReachedStates.{IsKept, noted_after}
+use Rattle.supply_laws.proofs.ReachedStates.{IsKept}
 use Rattle.value_laws.specs.Deliveries.{delivered_request, delivered_by, deliveries}
 
 -- ---- an event delivers the next requests of the order to a tile, as many as its count rises by

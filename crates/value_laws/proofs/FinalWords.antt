@@ -1,7 +1,6 @@
 -- In a finished chip the words of a line where its owner keeps them are the value of the line after all requests.
 use Rattle.std.proofs.Common.{◌≡◌, ℕ, ◌<◌, Bool, true, false, not, ◌==◌, ◌||◌, List, [], Option, Some, None, is_some, option_map, unwrap_or, length, get_or, sym, ap, ◌∙◌, refl, subst, arith}
 use Rattle.std.proofs.lemmas.Bool.{eq-eqb, false≢true, true≢false}
-use Rattle.std.proofs.lemmas.List.{take_all}
 use Rattle.mesh_gen.specs.declared.request.Request.{Request}
 use Rattle.doc_text.specs.Doc.{Doc}
 use Rattle.chip_model.specs.declared.line_state.State.{State}
@@ -10,29 +9,24 @@ use Rattle.chip_model.specs.declared.owner.Owner.{Owner}
 use Rattle.chip_model.specs.declared.owner.Owner.TheVariants.{Memory, Tile}
 use Rattle.chip_model.specs.Chip.{Chip, chip_of, tile_count, home}
 use Rattle.chip_model.specs.Cache.{Held, is_shared, lookup}
-use Rattle.chip_model.specs.Misses.{Demand, WriteBack}
 use Rattle.chip_model.specs.Records.{LineRecord}
 use Rattle.chip_model.specs.Node.{Node}
 use Rattle.chip_model.specs.Units.{UnitState}
 use Rattle.chip_model.specs.ChipState.{ChipState, finished}
-use Rattle.chip_model.specs.Ownership.{is_tile, owner, owns, is_owned_copy, is_live_back, is_open_write, delivered_to}
+use Rattle.chip_model.specs.Ownership.{is_tile, owner, is_owned_copy, delivered_to}
 use Rattle.chip_model.specs.Suppliers.{last_written_back, has_come, is_fresh_by}
 use Rattle.chip_model.specs.Values.{CopyHasValue, RecordHasValue}
 use Rattle.chip_model.specs.Witness.{line_value}
 use Rattle.chip_model.specs.Reports.{words_held, words_recorded, words_of_owner, final_words}
 use Rattle.chip_model.specs.ChipInvariant.{InOrderChipHolds}
 use Rattle.chip_laws.specs.DocFits.{DocFits}
+use Rattle.chip_laws.proofs.DoneUnits.{all_delivered, only_copies}
 use Rattle.chip_laws.proofs.NodeMessages.{home_inside}
 use Rattle.chip_laws.proofs.RequestsInside.{tile_of}
-use Rattle.chip_laws.proofs.OrderedTiles.{source_inside}
-use Rattle.supply_laws.proofs.OwnerGets.{owner_get}
+use Rattle.supply_laws.proofs.OwnerGets.{owner_inside}
 use Rattle.supply_laws.proofs.ReachedWords.{reached_none}
 use Rattle.supply_laws.proofs.WordsDue.{due}
-use Rattle.value_laws.proofs.Finished.{IsDone, unit_done, none_in_flight, none_to_come}
-
--- all requests were delivered
-all_delivered : (s : ChipState) (unit : UnitState) → IsDone s.network.ordered unit → delivered_to s.network.ordered unit.node ≡ s.network.ordered
-all_delivered s unit over = take_all unit.node.delivered s.network.ordered (omega (arith, over.delivered))
+use Rattle.value_laws.proofs.Finished.{unit_done, none_in_flight, none_to_come}
 
 -- ---- a line that a tile owns
 
@@ -50,36 +44,16 @@ copy_value d s node line held M e h = h.value
 copy_value d s node line held O e h = h.value
 copy_value d s node line held S e h = absurd (true≢false e)
 
--- a node without a demand and a write-back owns lines by its copies alone
-only_copies : (chip : Chip) (node : Node) (line : ℕ) → node.side.misses.demand ≡ None → node.side.misses.back ≡ None
-    → owns chip node.side line ≡ is_owned_copy (lookup chip node.side.cache line)
-unfolding owns
-only_copies chip node line no_demand no_back =
-    ap (λ (o : Option WriteBack). is_owned_copy (lookup chip node.side.cache line) || is_live_back line o || is_open_write line node.side.misses.demand) no_back
-    ∙ ap (λ (o : Option Demand). is_owned_copy (lookup chip node.side.cache line) || false || is_open_write line o) no_demand
-    ∙ neither (is_owned_copy (lookup chip node.side.cache line))
-  where
-    neither : (b : Bool) → (b || false || false) ≡ b
-    neither true = refl
-    neither false = refl
-
--- the owner is a tile of the chip
-owner_inside : (d : Doc) (s : ChipState) (line t : ℕ) → DocFits d → InOrderChipHolds d s → owner line s.network.ordered ≡ Tile t → t < tile_count (chip_of d)
-owner_inside d s line t fits h is =
-    let all = take_all (length s.network.ordered) s.network.ordered (omega arith) in
-    let get = owner_get line t (length s.network.ordered) s.network.ordered (ap (owner line) all ∙ is) in
-    subst (λ (v : ℕ). v < tile_count (chip_of d)) get.source (source_inside d s get.place get.get fits h.protocol get.at)
-
 tile_words : (d : Doc) (s : ChipState) (line t : ℕ) → DocFits d → InOrderChipHolds d s → finished s ≡ true → owner line s.network.ordered ≡ Tile t
     → words_of_owner (chip_of d) s line (Tile t) ≡ line_value d s.accesses line (length s.network.ordered)
 tile_words d s line t fits h over is_owner =
-    let tile = tile_of d s t h.protocol (owner_inside d s line t fits h is_owner) in
+    let tile = tile_of d s t h.protocol (owner_inside d s line t fits h.protocol is_owner) in
     let holds = tile.holds in
     let done = unit_done s t tile.unit over tile.unit_at in
     let owned : is_owned_copy (lookup tile.unit.node.chip tile.unit.node.side.cache line) ≡ true =
-    sym (only_copies tile.unit.node.chip tile.unit.node line done.demand done.back)
+    sym (only_copies s.network.ordered tile.unit line done)
     ∙ holds.serves.owns.lines line
-    ∙ ap (λ (requests : List Request). is_tile tile.unit.node.tile (owner line requests)) (all_delivered s tile.unit done)
+    ∙ ap (λ (requests : List Request). is_tile tile.unit.node.tile (owner line requests)) (all_delivered s.network.ordered tile.unit done)
     ∙ ap (is_tile tile.unit.node.tile) is_owner
     ∙ eq-eqb t tile.unit.node.tile (sym holds.node.agrees.tile) in
     let (held, here, exclusive) = owned_of (lookup tile.unit.node.chip tile.unit.node.side.cache line) owned in
@@ -112,7 +86,7 @@ memory_words d s line fits h over small is_owner =
     let at_home : (home tile.unit.node.chip line == tile.unit.node.tile) ≡ true =
     eq-eqb (home tile.unit.node.chip line) tile.unit.node.tile (ap (λ (chip : Chip). home chip line) holds.node.chip ∙ sym holds.node.agrees.tile) in
     let (r, here) = record_of (get_or tile.unit.node.records line None) (holds.node.fits.lines.records line within ∙ at_home) in
-    let owner_is : r.owner ≡ Memory = holds.serves.owns.records line r here ∙ ap (owner line) (all_delivered s tile.unit done) ∙ is_owner in
+    let owner_is : r.owner ≡ Memory = holds.serves.owns.records line r here ∙ ap (owner line) (all_delivered s.network.ordered tile.unit done) ∙ is_owner in
     let none : due s line ≡ 0 = omega (arith, none_in_flight s line over, none_to_come d s line fits h.protocol over) in
     let fresh : r.fresh ≡ true =
     holds.serves.fresh line r here

@@ -19,46 +19,14 @@ use Rattle.chip_model.specs.ChipState.{ChipState, is_done, finished}
 use Rattle.chip_model.specs.Suppliers.{count_of, delivered_at, is_back_for, write_backs_in_flight, write_backs_to_come, is_undelivered, is_undelivered_at, places_written_back}
 use Rattle.chip_model.specs.ChipInvariant.{ProtocolHolds}
 use Rattle.chip_laws.specs.DocFits.{DocFits}
+use Rattle.chip_laws.specs.DoneUnits.{IsDone}
+use Rattle.chip_laws.proofs.DoneUnits.{done_of}
 use Rattle.chip_laws.proofs.Each.{each_at}
 use Rattle.chip_laws.proofs.Options.{none_some}
 use Rattle.chip_laws.proofs.RequestsInside.{tile_of}
 use Rattle.chip_laws.proofs.OrderedTiles.{source_inside}
 
 -- ---- the units
-
--- a unit that has nothing left to do
-pub record IsDone (ordered : List Request) (unit : UnitState) : Type 0 where
-  pub halted : unit.halted ≡ true
-  pub demand : unit.node.side.misses.demand ≡ None
-  pub back : unit.node.side.misses.back ≡ None
-  pub out : unit.node.out ≡ []
-  pub delivered : unit.node.delivered ≡ length ordered
-
-none_of : {X : Type 0} (o : Option X) → is_some o ≡ false → o ≡ None
-none_of None e = refl
-none_of (Some x) e = cc
-
-nil_of : {X : Type 0} (xs : List X) → (length xs == 0) ≡ true → xs ≡ []
-nil_of [] e = refl
-nil_of (x ∷ xs) e = let some : length (x ∷ xs) ≡ 0 = eqb-true (length (x ∷ xs)) 0 e in absurd (omega arith)
-
-done_of : (ordered : List Request) (unit : UnitState) → is_done ordered unit ≡ true → IsDone ordered unit
-done_of ordered unit e =
-    let demand = is_some unit.node.side.misses.demand in
-    let back = is_some unit.node.side.misses.back in
-    let quiet = unit.halted && not (demand || back) in
-    let sent = length unit.node.out == 0 in
-    let all = and_parts (quiet && sent) (unit.node.delivered == length ordered) e in
-    let some = and_parts quiet sent all.0 in
-    let first = and_parts unit.halted (not (demand || back)) some.0 in
-    let neither = or_parts demand back (not-true (demand || back) first.1) in
-    record {
-      halted = first.0;
-      demand = none_of unit.node.side.misses.demand neither.0;
-      back = none_of unit.node.side.misses.back neither.1;
-      out = nil_of unit.node.out some.1;
-      delivered = eqb-true unit.node.delivered (length ordered) all.1;
-    }
 
 all_pass : {X : Type 0} (p : X → Bool) (xs : List X) → list_all p xs ≡ true → AllByRecursion (λ x. p x ≡ true) xs
 all_pass p [] e = tt

@@ -16,13 +16,13 @@ use Rattle.chip_laws.specs.DocFits.{DocFits}
 use Rattle.chip_laws.specs.DocLaws.{DocLaws}
 use Rattle.chip_laws.specs.EventSteps.{EventDoes}
 use Rattle.chip_laws.specs.MessageLaws.{MessageLaws}
-use Rattle.chip_laws.proofs.EventSteps.{event_does}
+use Rattle.chip_laws.proofs.EventSteps.{event_does, noted_after}
 use Rattle.chip_laws.proofs.Options.{bind}
 use Rattle.chip_laws.proofs.OrderedTiles.{tiles_some}
 use Rattle.chip_laws.proofs.RequestsInside.{tile_of}
 use Rattle.supply_laws.specs.Reachable.{StateHolds}
 use Rattle.supply_laws.proofs.NotedStates.{noted_state}
-use Rattle.supply_laws.proofs.ReachedStates.{IsKept, noted_after}
+use Rattle.supply_laws.proofs.ReachedStates.{IsKept}
 use Rattle.value_laws.specs.Sequences.{Succeeds, AreSucceeding}
 use Rattle.value_laws.specs.Numbers.{AreInTurn}
 use Rattle.value_laws.proofs.Sequences.{pairs_before}

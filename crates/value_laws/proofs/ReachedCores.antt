@@ -15,12 +15,12 @@ use Rattle.chip_model.specs.Runs.{after, run}
 use Rattle.chip_model.specs.BehaviourLaws.{KeepsLaws}
 use Rattle.chip_model.specs.ChipInvariant.{CoresInOrder}
 use Rattle.chip_laws.specs.DocFits.{DocFits}
-use Rattle.chip_laws.proofs.EventSteps.{event_does}
+use Rattle.chip_laws.proofs.EventSteps.{event_does, noted_after}
 use Rattle.chip_laws.proofs.Opening.{opened_unit}
 use Rattle.chip_laws.proofs.Options.{bind}
 use Rattle.supply_laws.specs.Reachable.{StateHolds}
 use Rattle.supply_laws.proofs.NotedStates.{noted_state, noted_cores}
-use Rattle.supply_laws.proofs.ReachedStates.{IsKept, AreKeptInOrder, noted_after}
+use Rattle.supply_laws.proofs.ReachedStates.{IsKept, AreKeptInOrder}
 use Rattle.value_laws.specs.CoreRuns.{CoreRuns, CoresRun}
 use Rattle.value_laws.proofs.CoreSteps.{core_at-itself}
 use Rattle.value_laws.proofs.CoreEvents.{cores_run_after}

@@ -13,12 +13,12 @@ use Rattle.chip_model.specs.Runs.{noted, after, run}
 use Rattle.chip_model.specs.BehaviourLaws.{KeepsLaws}
 use Rattle.chip_laws.specs.DocFits.{DocFits}
 use Rattle.chip_laws.proofs.Each.{each_at}
-use Rattle.chip_laws.proofs.EventSteps.{event_does}
+use Rattle.chip_laws.proofs.EventSteps.{event_does, noted_after}
 use Rattle.chip_laws.proofs.Opening.{opened_unit}
 use Rattle.chip_laws.proofs.Options.{none_some, bind}
 use Rattle.supply_laws.specs.Reachable.{StateHolds}
 use Rattle.supply_laws.proofs.NotedStates.{noted_state}
-use Rattle.supply_laws.proofs.ReachedStates.{IsKept, noted_after}
+use Rattle.supply_laws.proofs.ReachedStates.{IsKept}
 use Rattle.value_laws.specs.Sequences.{AllPairs, Differs}
 use Rattle.value_laws.specs.Numbers.{StoresRise, AreInTurn}
 use Rattle.value_laws.proofs.TurnsKept.{turns_after}

@@ -15,13 +15,13 @@ use Rattle.chip_model.specs.ChipInvariant.{CoresInOrder}
 use Rattle.chip_laws.specs.DocFits.{DocFits}
 use Rattle.chip_laws.specs.DocLaws.{DocLaws}
 use Rattle.chip_laws.specs.MessageLaws.{MessageLaws}
-use Rattle.chip_laws.proofs.EventSteps.{event_does}
+use Rattle.chip_laws.proofs.EventSteps.{event_does, noted_after}
 use Rattle.chip_laws.proofs.Options.{none_some, bind}
 use Rattle.chip_laws.proofs.OrderedTiles.{tiles_some}
 use Rattle.chip_laws.proofs.RequestsInside.{tile_of}
 use Rattle.supply_laws.specs.Reachable.{StateHolds}
 use Rattle.supply_laws.proofs.NotedStates.{noted_state, noted_cores}
-use Rattle.supply_laws.proofs.ReachedStates.{IsKept, AreKeptInOrder, noted_after}
+use Rattle.supply_laws.proofs.ReachedStates.{IsKept, AreKeptInOrder}
 use Rattle.value_laws.specs.CoreRuns.{CoresRun}
 use Rattle.value_laws.specs.Reads.{ReadsHold, AccessesHold}
 use Rattle.value_laws.proofs.Executions.{cores_rising}

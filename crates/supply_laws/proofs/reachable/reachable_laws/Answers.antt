@@ -2,7 +2,7 @@
 use Rattle.chip_model.specs.Chip.{chip_of}
 use Rattle.chip_model.specs.Units.{in_order}
 use Rattle.chip_model.specs.ChipState.{opening}
-use Rattle.supply_laws.proofs.ReachedStates.{run_holds, cores_run}
+use Rattle.supply_laws.proofs.ReachedStates.{noted_holds, run_holds, cores_run}
 use Rattle.supply_laws.proofs.StateKept.{state_of_parts, shapes_of, queues_of, units_kept, units_opened}
 use Rattle.supply_laws.proofs.reachable.reachable_laws.Goals as goal
 
@@ -42,6 +42,9 @@ returns-clause-kept c = λ b laws d s new event fits holds e.
       none_back = c.get_laws.ensures.puts b laws d s new event fits protocol holds.fit holds.none_back e;
       messages = c.get_laws.ensures.messages b laws d s new event fits protocol holds.fit holds.messages e;
     })
+
+pub returns-clause-noted : goal.returns-clause-noted
+returns-clause-noted c = noted_holds (returns-clause-kept c)
 
 pub returns-clause-reached : goal.returns-clause-reached
 returns-clause-reached c = λ b laws d events s fits e.

@@ -13,8 +13,9 @@ returns-then-at-len g c =
     let t = c.from-at.result in
     let laws = c.kind_laws.ensures in
     let holds = rw (← c.self.view_is) at (c.laws.ensures.holds laws) in
-    rw (← c.self.view_is) (no_tile b laws d (chip_state fab (units_of stations)) c.args.e holds
-    (tiles_some (chip_of d).grid c.self.invariant.within.fits.chip.tiles) (omega
+    rw (← c.self.view_is) (no_tile b d (chip_state fab (units_of stations)) c.args.e holds.protocol
+    (tiles_some (chip_of d).grid c.self.invariant.within.fits.chip.tiles)
+    (c.chip_progress_laws.ensures.slot b laws d (chip_state fab (units_of stations)) holds c.args.e) (omega
     (arith, c.if-at-len.true, c.from-at.ensures, c.tile_of.ensures, c.len.ensures, c.self.inside.stations.ok.0, units_counted stations)))
 
 pub can_act-requires-clause-event : goal.can_act-requires-clause-event

@@ -7,7 +7,6 @@ use Rattle.chip_model.specs.Chip.{chip_of}
 use Rattle.chip_model.specs.ChipState.{finished}
 use Rattle.chip_model.specs.Runs.{enabled}
 use Rattle.chip_model.specs.Schedules.{slots}
-use Rattle.chip_laws.proofs.Options.{none_some}
 use Rattle.machine_core.proofs.FirstEvents.{find_at, find_none, not_contained}
 use Rattle.machine_core.proofs.machine.Machine.first_enabled.Goals as goal
 
@@ -19,7 +18,7 @@ returns-then-enabled-clause-first g c =
 
 pub returns-then-enabled-clause-none : goal.returns-then-enabled-clause-none
 returns-then-enabled-clause-none g c = (
-  λ none. none_some c.slot-e.result (sym none),
+  λ none. cc,
   λ over. absurd (true≢false (sym c.if-enabled.true ∙ c.enabled.ensures ∙ c.progresses.ensures.stops over c.slot-e.result)),
 )
 

@@ -17,9 +17,10 @@ returns-then-at-len-clause-err g c =
     let t = c.from-at.result in
     let laws = c.kind_laws.ensures in
     let holds = rw (← c.self.view_is) at (c.laws.ensures.holds laws) in
-    rw (← c.self.view_is) (not_after b (chip_of d) (chip_state fab (units_of stations)) c.args.e (sym (no_tile b laws d (chip_state fab
-    (units_of stations)) c.args.e holds
-    (tiles_some (chip_of d).grid c.self.invariant.within.fits.chip.tiles) (omega
+    rw (← c.self.view_is) (not_after b (chip_of d) (chip_state fab (units_of stations)) c.args.e (sym (no_tile b d (chip_state fab
+    (units_of stations)) c.args.e holds.protocol
+    (tiles_some (chip_of d).grid c.self.invariant.within.fits.chip.tiles)
+    (c.chip_progress_laws.ensures.slot b laws d (chip_state fab (units_of stations)) holds c.args.e) (omega
     (arith, c.if-at-len.true, c.from-at.ensures, c.tile_of.ensures, c.len.ensures, c.self.inside.stations.ok.0, units_counted stations)))))
 
 pub perform-requires-clause-event : goal.perform-requires-clause-event
