@@ -22,16 +22,8 @@ use Rattle.chip_laws.specs.DeliveryCounts.{CountsDeliveries}
 use Rattle.chip_laws.specs.EventSteps.{ChangesUnit, EventDoes}
 use Rattle.chip_laws.specs.Tiles.{TileOf}
 use Rattle.core_unit.specs.Counts.{CountsOne}
+use Rattle.machine_core.specs.Counts.{IsCounted, UnitCounted}
 use Rattle.supply_laws.specs.Reachable.{StateHolds}
-
--- a unit has done so many instructions and delivered so many requests at most
-pub record UnitCounted (n : ℕ) (unit : UnitState) : Type 0 where
-  pub steps : unit.core.steps ≤ n
-  pub delivered : unit.node.delivered ≤ n
-
-pub record IsCounted (n : ℕ) (s : ChipState) : Type 0 where
-  pub units : (t : ℕ) (unit : UnitState) → slice_get s.units t ≡ Some unit → UnitCounted n unit
-  pub accesses : length s.accesses ≤ n
 
 -- what the laws below say of the events and the tiles of a chip
 pub record EventLaws (b : Behaviour) (laws : KeepsLaws b) (d : Doc) : Type 0 where

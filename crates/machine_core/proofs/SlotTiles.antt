@@ -1,5 +1,5 @@
--- Each slot is of a tile of the chip.
-use Rattle.std.proofs.Common.{◌≡◌, ℕ, zero, suc, ◌+◌, ◌<◌, List, [], ◌∷◌, ◌++◌, length, get_or, refl, sym, subst, arith}
+-- Each slot is of a tile of the chip, and within the limits of entries.
+use Rattle.std.proofs.Common.{◌≡◌, ℕ, zero, suc, ◌+◌, ◌<◌, ◌≤◌, List, [], ◌∷◌, ◌++◌, length, get_or, refl, sym, subst, arith}
 use Rattle.std.specs.Prelude.{map, Contains}
 use Rattle.std.specs.List.{flat_map, AllByRecursion}
 use Rattle.std.proofs.lemmas.List.Concat.{flat_map-cons}
@@ -7,10 +7,11 @@ use Rattle.mesh_gen.specs.declared.port.Port.{Port}
 use Rattle.mesh_gen.specs.declared.port.Port.TheVariants.{L}
 use Rattle.order_tracker.specs.Order.{upwards}
 use Rattle.report_text.specs.declared.event.Event.{Event}
-use Rattle.report_text.specs.declared.event.Event.TheVariants.{Tick, Hop, DataHop, DataEject}
+use Rattle.report_text.specs.declared.event.Event.TheVariants.{Tick, Core, Inject, Post, Take, Eject, Send, Hop, DataHop, DataEject}
+use Rattle.report_text.specs.Events.{IsWithinLimits}
 use Rattle.chip_model.specs.Chip.{Chip, tile_count}
 use Rattle.chip_model.specs.Schedules.{output_ports, ports, hops_from, router_hops, reply_events, tile_slots, slots}
-use Rattle.machine_core.specs.Stations.{tile_of}
+use Rattle.machine_core.specs.Stations.{IsAtStation, tile_of}
 use Rattle.machine_core.specs.Slots.{own_events}
 
 all_append : {X : Type 0} (P : X → Type 0) (xs ys : List X) → AllByRecursion P xs → AllByRecursion P ys → AllByRecursion P (xs ++ ys)
@@ -83,3 +84,62 @@ slot_tile chip e some has =
       tiles_all chip
           (tile_count chip) 0 (tile_count chip) (omega arith),
     ) has
+
+-- each slot of a tile is an event of the tile
+pub slot_at : (chip : Chip) (t : ℕ) (e : Event) → Contains (tile_slots chip t) e → IsAtStation t e
+unfolding IsOf
+slot_at chip t e has = by e (all_contained (IsOf t) (tile_slots chip t) e (tile_all chip t) has)
+  where
+    by : (event : Event) → tile_of event ≡ t → IsAtStation t event
+    by Tick of = tt
+    by (Core u) of = of
+    by (Inject u) of = of
+    by (Post u) of = of
+    by (Take u) of = of
+    by (Eject u) of = of
+    by (Send u) of = of
+    by (Hop r port slot out) of = of
+    by (DataHop r port slot) of = of
+    by (DataEject r port slot) of = of
+
+-- all numbers from one on, so many
+all_upwards : {Y : Type 0} (P : Y → Type 0) (f : ℕ → List Y) (first count : ℕ) → ((k : ℕ) → k < first + count → AllByRecursion P (f k))
+    → AllByRecursion P (flat_map f (upwards first count))
+all_upwards P f first zero each = tt
+all_upwards P f first (suc count) each =
+    subst (AllByRecursion P) (sym (flat_map-cons f first (upwards (first + 1) count)))
+    (all_append P (f first) (flat_map f (upwards (first + 1) count)) (each first (omega arith))
+    (all_upwards P f (first + 1) count (λ k below. each k (omega (arith, below)))))
+
+all_numbers : {Y : Type 0} (P : Y → Type 0) (f : ℕ → Y) (first count : ℕ) → ((k : ℕ) → k < first + count → P (f k)) → AllByRecursion P (map f (upwards first count))
+all_numbers P f first zero each = tt
+all_numbers P f first (suc count) each = (each first (omega arith), all_numbers P f (first + 1) count (λ k below. each k (omega (arith, below))))
+
+tile_within : (chip : Chip) (t : ℕ) → t ≤ 63 → chip.vcs ≤ 8 → chip.data_vcs ≤ 4 → AllByRecursion IsWithinLimits (tile_slots chip t)
+tile_within chip t tile vcs data_vcs =
+    all_append IsWithinLimits (own_events t ++ router_hops chip t ++ reply_events chip (DataHop t)) (reply_events chip (DataEject t))
+    (all_append IsWithinLimits (own_events t ++ router_hops chip t) (reply_events chip (DataHop t))
+    (all_append IsWithinLimits (own_events t) (router_hops chip t) (tile, (tile, (tile, (tile, (tile, (tile, tt)))))) hops)
+    (replies (DataHop t) (λ port slot few. (tile, few))))
+    (replies (DataEject t) (λ port slot few. (tile, few)))
+  where
+    from : (port : Port) (slot : ℕ) → slot ≤ 15 → AllByRecursion IsWithinLimits (hops_from t port slot)
+    from port slot few = ((tile, few, λ same. cc), ((tile, few, λ same. cc), ((tile, few, λ same. cc), ((tile, few, λ same. cc), tt))))
+
+    hops : AllByRecursion IsWithinLimits (router_hops chip t)
+    hops =
+        all_append IsWithinLimits (flat_map (hops_from t L) (upwards 0 chip.vcs)) (flat_map
+        (λ port. flat_map (hops_from t port) (upwards 0 (chip.vcs + 1))) output_ports)
+        (all_upwards IsWithinLimits (hops_from t L) 0 chip.vcs (λ slot below. from L slot (omega (arith, below, vcs))))
+        (all_flat IsWithinLimits (λ port. flat_map (hops_from t port) (upwards 0 (chip.vcs + 1))) (λ port. all_upwards IsWithinLimits
+        (hops_from t port) 0 (chip.vcs + 1) (λ slot below. from port slot (omega (arith, below, vcs)))) output_ports)
+
+    replies : (event : Port → ℕ → Event) → ((port : Port) (slot : ℕ) → slot ≤ 15 → IsWithinLimits (event port slot))
+        → AllByRecursion IsWithinLimits (reply_events chip event)
+    replies event is =
+        all_flat IsWithinLimits (λ port. map (event port) (upwards 0 chip.data_vcs)) (λ port. all_numbers
+        IsWithinLimits (event port) 0 chip.data_vcs (λ slot below. is port slot (omega (arith, below, data_vcs)))) ports
+
+-- an entry has room for what a slot of a tile names
+pub slot_within : (chip : Chip) (t : ℕ) (e : Event) → t ≤ 63 → chip.vcs ≤ 8 → chip.data_vcs ≤ 4 → Contains (tile_slots chip t) e → IsWithinLimits e
+slot_within chip t e tile vcs data_vcs has = all_contained IsWithinLimits (tile_slots chip t) e (tile_within chip t tile vcs data_vcs) has

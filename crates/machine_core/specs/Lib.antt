@@ -3,3 +3,4 @@ pub mod Meetings
 pub mod Machine
 pub mod Slots
 pub mod FinalWords
+pub mod Counts

@@ -3,6 +3,7 @@
 #![tactic(auto)]
 
 mod acting;
+mod counting;
 mod events;
 mod final_words;
 mod machine;
@@ -10,15 +11,18 @@ mod parts;
 mod possible;
 mod reporting;
 mod rest;
+mod slot_events;
 mod slots;
 mod station;
 mod threads;
 
+pub use counting::counting_laws;
 pub use machine::{MOST_EVENTS, Machine, SPARE_EVENTS};
 use mesh_gen::Items;
 pub use parts::Parts;
 pub use rest::Rest;
-pub use slots::slot_event;
+pub use slot_events::slot_laws;
+pub use slots::{slot_event, slots_each, tile_slot};
 pub use station::{MOST_PRIVATE, Station};
 pub use threads::stations_go_to_threads;
 

@@ -1,5 +1,5 @@
 use doc_text::Document;
-use mesh_gen::NoMemory;
+use mesh_gen::{Mesh, NoMemory};
 use std::alloc::Global;
 use std::marker::Model;
 
@@ -28,12 +28,20 @@ impl Model for Rest {
 impl Rest {
     ghost use Rattle.std.specs.Prelude.{◌≡◌, ◌*◌, ◌≤◌, IfOk, vec_capacity};
     ghost use Rattle.doc_text.specs.Doc.{doc_of};
+    ghost use Rattle.chip_model.specs.Chip.{chip_of, chip_of_mesh};
 
     pub(crate) fn open(alloc: Global, document: Document) -> Result<Rest, NoMemory>
         ensures { IfOk result (λ rest. rest ≡ doc_of document) }
     {
         let steps = Vec::with_capacity(alloc, usize::from(document.mesh.tiles()))?;
         Ok(Rest { document, steps })
+    }
+
+    /// The sizes of the chip.
+    pub fn mesh(&self) -> &Mesh
+        ensures { chip_of_mesh result.now ≡ chip_of self.now }
+    {
+        &self.document.mesh
     }
 
     pub(crate) fn into_parts(self) -> (Document, Vec<u64>)

@@ -17,7 +17,7 @@ pub fn slot_event(mesh: &Mesh, k: u32) -> Event
         return Event::Tick;
     }
     let each = slots_each(mesh);
-    tile_event(mesh, ((k - 1) / each) as u8, (k - 1) % each)
+    tile_slot(mesh, ((k - 1) / each) as u8, (k - 1) % each)
 }
 
 /// How many slots there are.
@@ -27,15 +27,15 @@ pub(crate) fn slot_total(mesh: &Mesh) -> u32
     1 + u32::from(mesh.tiles()) * slots_each(mesh)
 }
 
-// How many slots each tile has.
-fn slots_each(mesh: &Mesh) -> u32
+/// How many slots each tile has.
+pub fn slots_each(mesh: &Mesh) -> u32
     ensures { result ≡ slots_per_tile (chip_of_mesh mesh.now) }
 {
     22 + 20 * u32::from(mesh.vcs) + 10 * u32::from(mesh.data_vcs)
 }
 
-// The event of a slot of a tile.
-fn tile_event(mesh: &Mesh, t: u8, j: u32) -> Event
+/// The event of a slot of a tile, by the slot's number among those of the tile. The core's event is the first.
+pub fn tile_slot(mesh: &Mesh, t: u8, j: u32) -> Event
     requires { j < slots_per_tile (chip_of_mesh mesh.now) }
     ensures { slice_get (tile_slots (chip_of_mesh mesh.now) t) j ≡ Some result }
 {

@@ -74,6 +74,13 @@ impl<U: Unit> Station<U> {
         })
     }
 
+    /// Its tile.
+    pub fn tile(&self) -> u8
+        ensures { result ≡ self.now.tile }
+    {
+        self.tile
+    }
+
     /// How many core events it did that are not in the journal yet.
     pub fn counted(&self) -> u8
         ensures counted { result ≡ self.now.cores }

@@ -18,5 +18,5 @@ returns c =
     let below : rest % each < each = mod-lt rest (omega (arith, c.slots_each-each.ensures)) in
     let inside : rest / each < tile_count chip = quotient_below rest (tile_count chip) each (omega (arith, c.slots_each-each.ensures)) (omega
     (arith, c.requires, c.if-k-eq0.false, ap (λ n. tile_count chip * n) c.slots_each-each.ensures)) in
-    tile_slot_at chip (rest / each) (rest % each) c.args.k c.tile_event.result inside (omega (arith, below, c.slots_each-each.ensures))
-    (omega (arith, c.if-k-eq0.false, div-add-mod' rest each, ap (λ n. rest / each * n) c.slots_each-each.ensures)) c.tile_event.ensures
+    tile_slot_at chip (rest / each) (rest % each) c.args.k c.tile_slot.result inside (omega (arith, below, c.slots_each-each.ensures))
+    (omega (arith, c.if-k-eq0.false, div-add-mod' rest each, ap (λ n. rest / each * n) c.slots_each-each.ensures)) c.tile_slot.ensures

@@ -2,7 +2,7 @@ use Rattle.std.proofs.Common.{arith}
 use Rattle.report_text.specs.declared.event.Event.TheVariants.{DataHop, DataEject}
 use Rattle.chip_model.specs.Chip.{chip_of_mesh}
 use Rattle.machine_core.proofs.SlotPlaces.{data_hop_slot_at, data_eject_slot_at}
-use Rattle.machine_core.proofs.slots.tile_event.Goals as goal
+use Rattle.machine_core.proofs.slots.tile_slot.Goals as goal
 
 pub returns-then-j-hops-2 : goal.returns-then-j-hops-2
 returns-then-j-hops-2 c =
