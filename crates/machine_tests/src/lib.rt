@@ -8,4 +8,6 @@ mod machines;
 #[cfg(test)]
 mod paces;
 #[cfg(test)]
+mod rounds;
+#[cfg(test)]
 mod units;

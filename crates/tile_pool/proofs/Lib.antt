@@ -1,0 +1,9 @@
+pub mod Words
+pub mod CoreRuns
+pub mod Turning
+pub mod Tried
+pub mod Settling
+pub mod SettleRoom
+pub mod Accounts
+pub mod RoundStarts
+pub mod RoundEnds
