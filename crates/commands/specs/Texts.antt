@@ -1,5 +1,5 @@
 -- The text that each command writes of its document, and its report.
-use Rattle.std.specs.Prelude.{◌≡◌, ℕ, List, Option, Some, None, IsSome, Ok}
+use Rattle.std.specs.Prelude.{◌≡◌, ℕ, Bool, true, false, List, Option, Some, None, is_some, Ok}
 use Rattle.report_text.specs.declared.report.Report.{Report}
 use Rattle.report_text.specs.Report.{report_text}
 use Rattle.doc_text.specs.Doc.{Doc}
@@ -42,8 +42,12 @@ abbrev pub IsTextOf : Command → Doc → Option Report → List ℕ → Type 0
 IsTextOf command doc None text = IsPlainTextOf command doc text
 IsTextOf command doc (Some report) text = IsReportOf command doc report × (text ≡ told_of command report)
 
+-- whether a command runs a machine
+abbrev pub runs_machine : Command → Bool
+runs_machine (Step pace budget) = true
+runs_machine (Gen number) = true
+runs_machine command = false
+
 -- a command that ran a machine has a report, and no other has
 abbrev pub HasReport : Command → Option Report → Type 0
-HasReport (Step pace budget) report = IsSome report
-HasReport (Gen number) report = IsSome report
-HasReport command report = report ≡ None
+HasReport command report = is_some report ≡ runs_machine command
