@@ -1,6 +1,7 @@
-ghost use Rattle.std.specs.Prelude.{◌≡◌, IfOk, OnOk};
+ghost use Rattle.std.specs.Prelude.{◌≡◌, ◌++◌, map, IfOk, OnOk};
+ghost use Rattle.rand_core.specs.Steps.{first_words};
 ghost use Rattle.rand_pcg.specs.Lcg.{advance};
-ghost use Rattle.rand_pcg.specs.Pcg.{multiplier_64};
+ghost use Rattle.rand_pcg.specs.Pcg.{multiplier_64, pcg32};
 ghost use Rattle.load_gen.specs.Load.{access, program};
 
 use core_isa::{Instr, Program};
@@ -84,11 +85,21 @@ pub(crate) fn draw_program(alloc: Global, words: &mut Pcg32) -> Result<Program, 
 {
     let mut instrs = Vec::new(alloc);
     instrs.push(Instr::Tid { rd: TILE })?;
-    for _ in 0..DRAWN {
-        instrs.push(access(words.next_word()))?;
-    }
+    push_accesses(&mut instrs, words)?;
     instrs.extend_from_slice(&GUARDED)?;
     Ok(Program::new(instrs))
+}
+
+// Appends the accesses that are drawn.
+fn push_accesses(instrs: &mut Vec<Instr>, words: &mut Pcg32) -> Result<(), NoMemory>
+    ensures drawn { OnOk result (instrs.new.items
+        ≡ instrs.old.items ++ map access (first_words pcg32 8 words.old)) }
+    ensures after { OnOk result (words.new ≡ advance 64 multiplier_64 8 words.old) }
+{
+    for _word in 0..DRAWN {
+        instrs.push(access(words.next_word()))?;
+    }
+    Ok(())
 }
 
 // The access that a word stands for.
