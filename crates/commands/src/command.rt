@@ -1,4 +1,4 @@
-ghost use Rattle.std.specs.Prelude.{◌≡◌, map, IfSome, IsSome};
+ghost use Rattle.std.specs.Prelude.{◌≡◌, [], ◌∷◌, map, IfSome, IsSome};
 ghost use Rattle.outside_io.specs.Streams.{stream};
 ghost use Rattle.doc_text.specs.Doc.{doc_of};
 ghost use Rattle.commands.specs.Arguments.{command_named, named, load_of, KeepsLimits};
@@ -49,20 +49,43 @@ impl Command {
     {
         match words {
             [word] => Command::named(word),
-            [word, number] if *word == "gen" => Some(Command::Gen {
-                load: load_numbered(number)?,
-            }),
-            [word, name, number] if *word == "step" => {
-                Some(StepOption::named(name, number)?.alone())
-            }
-            [word, number, "--text"] if *word == "gen" => Some(Command::GenText {
-                load: load_numbered(number)?,
-            }),
+            [word, number] => Command::of_load(word, number),
+            [word, second, third] => Command::with_option(word, second, third),
             [word, name, number, other_name, other_number] if *word == "step" => {
                 let option = StepOption::named(name, number)?;
                 option.beside(StepOption::named(other_name, other_number)?)
             }
             _ => None,
+        }
+    }
+
+    // The command that two words are the form of.
+    fn of_load(word: &str, number: &str) -> Option<Command>
+        ensures named { result ≡ command_named (word.now ∷ number.now ∷ []) }
+        ensures limits { IfSome result KeepsLimits }
+    {
+        if word == "gen" {
+            Some(Command::Gen {
+                load: load_numbered(number)?,
+            })
+        } else {
+            None
+        }
+    }
+
+    // The command that three words are the form of: `step` with an option, or `gen` with its own.
+    fn with_option(word: &str, second: &str, third: &str) -> Option<Command>
+        ensures named { result ≡ command_named (word.now ∷ second.now ∷ third.now ∷ []) }
+        ensures limits { IfSome result KeepsLimits }
+    {
+        if word == "step" {
+            Some(StepOption::named(second, third)?.alone())
+        } else if word == "gen" && third == "--text" {
+            Some(Command::GenText {
+                load: load_numbered(second)?,
+            })
+        } else {
+            None
         }
     }
 
