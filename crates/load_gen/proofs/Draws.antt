@@ -41,9 +41,12 @@ no_step count words e = rw e refl
 -- steps after others
 states_join : (w m p a b s : ℕ) → state_after w m p b (state_after w m p a s) ≡ state_after w m p (a + b) s
 unfolding state_after
-states_join w m p zero b s = ap (λ (n : ℕ). state_after w m p n s) (omega arith)
+states_join w m p zero b s =
+    let same : b ≡ 0 + b = omega arith in
+    ap (λ (n : ℕ). state_after w m p n s) same
 states_join w m p (suc a) b s =
-    states_join w m p a b (next_state w m p s) ∙ ap (λ (n : ℕ). state_after w m p n s) (omega arith)
+    let same : suc (a + b) ≡ suc a + b = omega arith in
+    states_join w m p a b (next_state w m p s) ∙ ap (λ (n : ℕ). state_after w m p n s) same
 
 -- the generator at a tile's words, and at those of the next one
 pub next_tile : (tile : ℕ) (words : Lcg) → advance 64 multiplier_64 8 (advance 64 multiplier_64 (8 * tile) words) ≡ advance 64 multiplier_64 (8 * (tile + 1)) words

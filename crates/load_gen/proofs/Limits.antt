@@ -1,9 +1,9 @@
 -- Loads keep every limit.
-use Rattle.std.proofs.Common.{◌≡◌, ℕ, zero, suc, ◌+◌, ◌*◌, ◌/◌, ◌%◌, ◌==◌, ◌<◌, ◌^◌, Bool, true, false, List, [], ◌∷◌, ◌++◌, length, map, refl, sym, ap, subst, arith, length-append, lit<, lit≤, rules}
+use Rattle.std.proofs.Common.{◌≡◌, ℕ, zero, suc, ◌+◌, ◌*◌, ◌/◌, ◌%◌, ◌==◌, ◌<◌, ◌^◌, Bool, true, false, List, [], ◌∷◌, ◌++◌, length, map, refl, sym, ap, subst, arith, length-append, lit<, lit≤}
 use Rattle.std.specs.Prelude.{replicate, if◌then◌else◌}
-use Rattle.std.specs.List.{AllByRecursion}
+use Rattle.std.specs.List.{AllByRecursion, IsDistinct}
 use Rattle.std.proofs.lemmas.List.{length-map}
-use Rattle.mesh_gen.specs.Limits.{IsFrom}
+use Rattle.mesh_gen.specs.Limits.{IsFrom, AreTiles}
 use Rattle.core_isa.specs.declared.instr.Instr.{Instr}
 use Rattle.core_isa.specs.declared.instr.Instr.TheVariants.{Ld, St, Tid}
 use Rattle.core_isa.specs.Program.{IsWithin, IsProgram}
@@ -59,6 +59,11 @@ pub zeros : (count : ℕ) → AllByRecursion (IsFrom 0 4294967295) (replicate co
 zeros zero = tt
 zeros (suc count) = (record { low = lit≤ tt; high = lit≤ tt }, zeros count)
 
+-- the controllers are two of the tiles
+pub two_controllers : AreTiles 16 (0 ∷ 15 ∷ [])
+unfolding IsDistinct
+two_controllers = record { some = lit< tt; distinct = ((refl, tt), (tt, tt)); inside = (lit< tt, (lit< tt, tt)) }
+
 -- each load keeps every limit of a document
 pub load_limits : (number : ℕ) → KeepsLimits (load number)
 load_limits number = record {
@@ -70,7 +75,7 @@ load_limits number = record {
   lines = record { low = lit≤ tt; high = lit≤ tt };
   sets = record { low = lit≤ tt; high = lit≤ tt };
   ways = record { low = lit≤ tt; high = lit≤ tt };
-  controllers = record { some = lit< tt; distinct = search rules; inside = (lit< tt, (lit< tt, tt)) };
+  controllers = two_controllers;
   memory = refl;
   words = zeros 64;
   programs = refl;

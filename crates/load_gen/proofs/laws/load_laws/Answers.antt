@@ -1,6 +1,5 @@
-use Rattle.std.proofs.Common.{◌∷◌, [], refl, lit≤}
 use Rattle.std.specs.List.{range_with_len}
-use Rattle.load_gen.proofs.Limits.{drawn_programs, zeros, load_limits}
+use Rattle.load_gen.proofs.Limits.{drawn_programs, load_limits}
 use Rattle.load_gen.proofs.laws.load_laws.Goals as goal
 
 pub returns-clause-limits : goal.returns-clause-limits
