@@ -11,9 +11,9 @@ use Rattle.commands.specs.declared.command.Command.{Command}
 use Rattle.commands.specs.declared.stop.Stop.{Stop}
 use Rattle.commands.specs.declared.stop.Stop.TheVariants.{Usage, Document, ReadFault, WriteFault, NoMemory, TooLong}
 use Rattle.commands.specs.Arguments.{command_named, load_of}
+use Rattle.commands.specs.Input.{OfDocument}
 use Rattle.commands.specs.Outcome.{Ran}
 use Rattle.commands.specs.Texts.{IsTextOf, IsReportOf, runs_machine}
-use Rattle.commands.proofs.Runs.{of_document}
 use Rattle.scorpio_cli.specs.Ended.{finish_status, written_status, ended_with}
 use Rattle.scorpio_cli.specs.Top.{HasWritten, SpeaksOfInput, ReadsDocument, Reports, IsRunOf}
 
@@ -52,6 +52,13 @@ only_readers words command source sink report (Err ReadFault) named ran speaks =
 only_readers words command source sink report (Err WriteFault) named ran speaks = absurd (other_than_input 5 (inl refl) speaks)
 only_readers words command source sink report (Err NoMemory) named ran speaks = absurd (other_than_input 6 (inr refl) speaks)
 only_readers words command source sink report (Err TooLong) named ran speaks = record { command = command; named = named; read = ran.0 }
+
+-- what follows for each document follows for that of a command
+of_document : (number : Option ℕ) (input : Option (List ℕ)) (Holds Wanted : Doc → Type 0) → ((doc : Doc) → Holds doc → Wanted doc)
+    → OfDocument number input Holds → OfDocument number input Wanted
+of_document (Some number) input Holds Wanted so held = so _ held
+of_document None None Holds Wanted so held = tt
+of_document None (Some bytes) Holds Wanted so (doc, is, held) = (doc, is, so doc held)
 
 no_report : {P : Type 0} (report : Report) → Some report ≡ None → P
 no_report report e = absurd cc
