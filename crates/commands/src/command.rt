@@ -36,9 +36,13 @@ pub enum Command {
         budget: u32,
     },
     /// Makes the load of a number, runs it by the pace of the same number, and writes a summary of the run.
-    Gen { load: u32 },
+    Gen {
+        load: u32,
+    },
     /// Makes the load of a number, and writes it in its canonical text.
-    GenText { load: u32 },
+    GenText {
+        load: u32,
+    },
 }
 
 impl Command {

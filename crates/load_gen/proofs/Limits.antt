@@ -4,7 +4,6 @@ use Rattle.std.specs.Prelude.{replicate, if◌then◌else◌}
 use Rattle.std.specs.List.{AllByRecursion, IsDistinct}
 use Rattle.std.proofs.lemmas.List.{length-map}
 use Rattle.mesh_gen.specs.Limits.{IsFrom, AreTiles}
-use Rattle.core_isa.specs.declared.instr.Instr.{Instr}
 use Rattle.core_isa.specs.declared.instr.Instr.TheVariants.{Ld, St, Tid}
 use Rattle.core_isa.specs.Program.{IsWithin, IsProgram}
 use Rattle.mesh_doc.specs.Laws.{KeepsLimits}
@@ -26,9 +25,22 @@ access_within len word = access_by len word (word / 64 % 2 == 0)
 
 -- so may accesses, and what a tile does after them
 within_program : (words : List ℕ) → AllByRecursion (IsWithin 16) (map access words ++ guarded)
-within_program [] =
-    ((lit< tt, lit< tt, lit< tt), ((lit< tt, lit< tt, lit≤ tt), ((lit< tt, lit< tt, lit< tt), ((lit< tt, lit< tt, lit< tt), ((lit< tt, lit< tt, lit< tt),
-    ((lit< tt, lit< tt, lit< tt), ((lit< tt, lit< tt, lit< tt), tt)))))))
+within_program [] = (
+  (lit< tt, lit< tt, lit< tt),
+  (
+    (lit< tt, lit< tt, lit≤ tt),
+    (
+      (lit< tt, lit< tt, lit< tt),
+      (
+        (lit< tt, lit< tt, lit< tt),
+        (
+          (lit< tt, lit< tt, lit< tt),
+          ((lit< tt, lit< tt, lit< tt), ((lit< tt, lit< tt, lit< tt), tt)),
+        ),
+      ),
+    ),
+  ),
+)
 within_program (word ∷ words) = (access_within 16 word, within_program words)
 
 drawn_count : (count : ℕ) (words : Lcg) → length (first_words pcg32 count words) ≡ count

@@ -73,7 +73,9 @@ fn loads_are_drawn_by_their_numbers(rt: HostRuntime) -> Result<(), Fail> {
     for (number, tile, accesses) in DRAWN {
         let text = text_of_load(alloc, number)?;
         assert!(rt; text.starts_with(MESH.as_bytes()), "of {number}");
-        let core = format!(in alloc; "\n[[core]]\ntile = {tile}\ncode = '''\ntid r1\n{accesses}{GUARDED}")?;
+        let core = format!(in alloc;
+            "\n[[core]]\ntile = {tile}\ncode = '''\ntid r1\n{accesses}{GUARDED}"
+        )?;
         assert!(rt; has_part(&text, core.as_bytes()), "tile {tile} of {number}");
     }
     Ok(())
@@ -113,7 +115,9 @@ fn the_run_of_a_load_leaves_16_as_token_and_counter(rt: HostRuntime) -> Result<(
         let (outcome, sink) = done(alloc, &["gen", number], "", &[])?;
         assert!(rt; outcome.result.is_ok());
         let last = counts(alloc, &outcome)?;
-        let summary = format!(in alloc; "load {number}\nended finished\ntoken 16\ncounter 16\n{last}")?;
+        let summary = format!(in alloc;
+            "load {number}\nended finished\ntoken 16\ncounter 16\n{last}"
+        )?;
         assert_eq!(rt; sink.held(), summary.as_bytes());
     }
     Ok(())
@@ -139,7 +143,10 @@ fn a_summary_that_cannot_be_written_stops_between_its_lines(rt: HostRuntime) -> 
     let (outcome, sink) = done(alloc, &["gen", "42"], "", &[3])?;
     assert!(rt; matches!(&outcome.result, Err(Stop::WriteFault)));
     assert!(rt; outcome.report.is_some());
-    assert_eq!(rt; sink.held(), b"load 42\nended finished\ntoken 16\n".as_slice());
+    assert_eq!(rt;
+        sink.held(),
+        b"load 42\nended finished\ntoken 16\n".as_slice()
+    );
     Ok(())
 }
 
@@ -162,7 +169,10 @@ fn words_that_name_no_load_are_no_form(rt: HostRuntime) -> Result<(), Fail> {
     for words in NO_FORMS {
         assert_eq!(rt; Command::of(words), None);
     }
-    assert_eq!(rt; Command::of(&["gen", "0042"]), Some(Command::Gen { load: 42 }));
+    assert_eq!(rt;
+        Command::of(&["gen", "0042"]),
+        Some(Command::Gen { load: 42 })
+    );
     assert_eq!(rt;
         Command::of(&["gen", "4294967295", "--text"]),
         Some(Command::GenText { load: u32::MAX })

@@ -118,9 +118,10 @@ not_written status (inr (inr (inr one))) (inr end) = omega arith
 -- exactly a command that runs a machine and comes to writing has a report
 pub reports_exactly : (words : List (List ℕ)) (command : Command) (source sink : Stream) (report : Option Report) (result : Result Unit Stop)
     → command_named words ≡ Some command → Ran command source sink report result → IsSome report ↔ Reports words (ended_with report result).status
-reports_exactly words command source sink report (Ok done) named ran =
-    (λ some. record { command = command; named = named; runs = sym ran.1 ∙ some; ran = inl (whole_text report) },
-    λ reports. has_one words command report (written_status report) named ran.1 reports)
+reports_exactly words command source sink report (Ok done) named ran = (
+  λ some. record { command = command; named = named; runs = sym ran.1 ∙ some; ran = inl (whole_text report) },
+  λ reports. has_one words command report (written_status report) named ran.1 reports,
+)
 reports_exactly words command source sink report (Err WriteFault) named ran =
     (λ some. record { command = command; named = named; runs = sym ran.2 ∙ some; ran = inr refl }, λ reports. has_one words command report 5 named ran.2 reports)
 reports_exactly words command source sink report (Err Usage) named ran = absurd ran
