@@ -1,0 +1,5 @@
+pub mod Runs
+pub mod TurnLists
+pub mod TurnFrames
+pub mod RoundCounts
+pub mod RoundRuns
