@@ -1,6 +1,8 @@
-use Rattle.std.proofs.Common.{refl}
+use Rattle.std.proofs.Common.{ℕ, Option, refl, subst}
+use Rattle.std.specs.Prelude.{Err}
 use Rattle.outside_io.specs.Streams.{stream}
 use Rattle.doc_text.specs.Doc.{doc_of}
+use Rattle.commands.specs.Outcome.{IsTaken}
 use Rattle.commands.proofs.Runs.{ran, ran_without}
 use Rattle.commands.proofs.command.Command.run.Goals as goal
 
@@ -11,5 +13,6 @@ returns-in-Ok-clause-ran g c =
 
 pub returns-in-Err-clause-ran : goal.returns-in-Err-clause-ran
 returns-in-Err-clause-ran g c =
-    ran_without c.args.self (stream g.S.Source.left g.S.Source.faults c.args.source.now c.take_document.new.source)
-    (stream g.K.Sink.held g.K.Sink.faults c.args.sink.now c.args.sink.now) c.in-Err.stop (rw c.load.ensures at c.in-Err.ensures.taken) refl
+    let source = stream g.S.Source.left g.S.Source.faults c.args.source.now c.take_document.new.source in
+    ran_without c.args.self source (stream g.K.Sink.held g.K.Sink.faults c.args.sink.now c.args.sink.now) c.in-Err.stop
+    (subst (λ (number : Option ℕ). IsTaken number source (Err c.in-Err.stop)) c.load.ensures c.in-Err.ensures.taken) refl
