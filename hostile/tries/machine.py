@@ -54,7 +54,10 @@ def stopped_and_continued(program):
 
 
 def stop_and_continue(run):
+    """Whether the run was stopped: it may have ended before."""
     run.process.send_signal(signal.SIGSTOP)
+    if run.process.returncode is not None:
+        return False
     stopped = os.waitid(os.P_PID, run.process.pid, os.WSTOPPED | os.WEXITED | os.WNOWAIT)
     time.sleep(0.005)
     run.process.send_signal(signal.SIGCONT)
