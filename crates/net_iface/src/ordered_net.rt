@@ -1,6 +1,9 @@
-ghost use Rattle.std.specs.Prelude.{◌≡◌, ◌+◌, ◌-◌, ◌^◌, ◌<◌, ◌≤◌, Some, None, IfOk, OnOk, OnErr, is_some, option_map, length, slice_get, slice_index};
-ghost use Rattle.std.specs.Bool.{OnTrue};
+ghost use Rattle.std.specs.Prelude.{◌≡◌, ◌+◌, ◌-◌, ◌^◌, ◌<◌, ◌≤◌, ℕ, Some, None, IfOk, OnOk, OnErr, is_some, option_map, length, slice_get, slice_index};
+ghost use Rattle.std.specs.Bool.{OnTrue, OnFalse};
+ghost use Rattle.mesh_gen.specs.declared.port.Port.{Port};
 ghost use Rattle.mesh_gen.specs.Limits.{IsFrom, most_tiles};
+ghost use Rattle.mesh_gen.specs.Ports.{port_number};
+ghost use Rattle.vc_bank.specs.Places.{at, vacant};
 ghost use Rattle.chip_model.specs.Chip.{chip_of_mesh, tile_count};
 ghost use Rattle.chip_model.specs.OrderedNetwork.{Interface, next_request, after_inject, after_request_post, after_network_tick, after_vector_take, expected_at, expected_at_next_hop, after_copy_hop, after_delivery};
 ghost use Rattle.chip_model.specs.NetworkFits.{NetworkFits};
@@ -285,6 +288,9 @@ impl OrderedNet {
         ensures sizes { SameSizes self.old self.new }
     {
         network_laws();
+        if !self.routers.owes(r, port, slot, out) {
+            return Err(NotEnabled);
+        }
         let expected = self.expected_at_next_hop(r, out);
         self.routers.hop(r, port, slot, out, expected)?;
         Ok(())
@@ -315,6 +321,27 @@ impl OrderedNet {
         pass_over(&mut self.trackers, t);
         self.delivered[usize::from(t)] += 1;
         Ok(q)
+    }
+}
+
+// Where a copy may leave.
+impl OrderedNet {
+    /// Whether no channel of a port of the router `r` holds a copy. Then none can leave.
+    pub fn is_vacant(&self, r: u8, port: Port) -> bool
+        ensures vacant { result ≡ vacant self.now.network.copies r (port_number port) }
+        ensures none { OnTrue result ((slot : ℕ) (out : Port)
+            → after_copy_hop self.now.chip self.now.network r port slot out ≡ None) }
+    {
+        self.routers.is_vacant(r, port)
+    }
+
+    /// Whether a channel holds a copy. Where it holds none, none can leave.
+    pub fn holds_copy(&self, r: u8, port: Port, slot: u8) -> bool
+        ensures holds { result ≡ is_some (at self.now.network.copies r (port_number port) slot) }
+        ensures none { OnFalse result ((out : Port)
+            → after_copy_hop self.now.chip self.now.network r port slot out ≡ None) }
+    {
+        self.routers.holds(r, port, slot)
     }
 }
 
@@ -355,6 +382,9 @@ impl OrderedNet {
     pub fn can_hop(&self, r: u8, port: Port, slot: u8, out: Port) -> bool
         ensures { result ≡ is_some (after_copy_hop self.now.chip self.now.network r port slot out) }
     {
+        if !self.routers.owes(r, port, slot, out) {
+            return false;
+        }
         let expected = self.expected_at_next_hop(r, out);
         self.routers.can_hop(r, port, slot, out, expected)
     }

@@ -1,10 +1,11 @@
 ghost use Rattle.std.specs.Prelude.{◌≡◌, ◌↔◌, ◌+◌, ◌<◌, ℕ, Some, None, IsTrue, IfOk, OnOk, OnErr, is_some, length};
+ghost use Rattle.std.specs.Bool.{OnTrue};
 ghost use Rattle.mesh_gen.specs.Grid.{tiles};
 ghost use Rattle.mesh_gen.specs.Mesh.{grid};
 ghost use Rattle.mesh_gen.specs.Ports.{port_number};
 ghost use Rattle.mesh_gen.specs.Routes.{HasTiles};
 ghost use Rattle.vc_bank.specs.Channels.{IsFree};
-ghost use Rattle.vc_bank.specs.Places.{at};
+ghost use Rattle.vc_bank.specs.Places.{at, vacant};
 ghost use Rattle.chip_model.specs.Copies.{channels_of};
 ghost use Rattle.chip_model.specs.Replies.{no_replies, after_send, after_data_hop, after_data_eject, is_empty};
 ghost use Rattle.reply_net.specs.ReplyNetwork.{total, AreOnTheirRoutes, HaveChannels, Moves};
@@ -13,7 +14,7 @@ use crate::banks::next_channel;
 use mesh_gen::{Mesh, Msg, NoChannel, NoMemory, NotEnabled, Port, route_laws};
 use std::alloc::Global;
 use std::marker::Model;
-use vc_bank::{Bank, empty_banks, free_slot, leave, packet_at, put_into};
+use vc_bank::{Bank, empty_banks, free_slot, holds_packet, is_vacant, leave, packet_at, put_into};
 
 /// The messages of the reply network. Contracts see the grid of its routers and the messages in their channels.
 #[derive(Drop)]
@@ -133,6 +134,22 @@ impl Replies {
         leave(&mut self.banks, r, port, slot, None);
         self.count -= 1;
         Ok(msg)
+    }
+
+    /// Whether no channel of a port of the router `r` holds a message.
+    pub fn is_vacant(&self, r: u8, port: Port) -> bool
+        ensures vacant { result ≡ vacant self.now.messages r (port_number port) }
+        ensures none { OnTrue result ((slot : ℕ)
+            → at self.now.messages r (port_number port) slot ≡ None) }
+    {
+        is_vacant(&self.banks, r, port)
+    }
+
+    /// Whether a channel holds a message.
+    pub fn holds(&self, r: u8, port: Port, slot: u8) -> bool
+        ensures { result ≡ is_some (at self.now.messages r (port_number port) slot) }
+    {
+        holds_packet(&self.banks, r, port, slot)
     }
 
     /// Whether no message stands in any channel.

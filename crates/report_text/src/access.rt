@@ -45,19 +45,20 @@ impl AccessKind {
     }
 }
 
-/// An access that a core performed.
+/// An access that a core performed. The large fields come first, since a value lies in memory as it is declared and a run
+/// keeps one for each access.
 #[derive(Clone, Copy, Debug, PartialEq, Eq)]
 pub struct Access {
-    pub tile: u8,
     /// How many instructions the core had done before.
     pub number: u64,
-    pub kind: AccessKind,
+    /// Its place in the order of the chip.
+    pub time: u64,
     /// The address of the word.
     pub address: u32,
     /// The word after the access.
     pub value: u32,
-    /// Its place in the order of the chip.
-    pub time: u64,
     /// The word before a swap or an add, and 0 for a load or a store.
     pub old: u32,
+    pub tile: u8,
+    pub kind: AccessKind,
 }

@@ -1,9 +1,9 @@
 -- The first channel of a router that owes its own tile.
 use Rattle.std.proofs.Common.{◌≡◌, ℕ, suc, zero, ◌+◌, ◌<◌, ◌≤◌, ◌↔◌, true, false, refl, sym, ◌∙◌, ap, subst, arith, ⊎_elim, Option, Some, None, List, [], ◌∷◌, length, get_or}
-use Rattle.std.specs.Prelude.{option_map, is_some}
+use Rattle.std.specs.Prelude.{option_map, is_none, is_some}
 use Rattle.std.specs.Option.{option_or}
 use Rattle.std.proofs.lemmas.List.Quantifiers.{position-Some}
-use Rattle.std.specs.List.{position, position_or_len}
+use Rattle.std.specs.List.{list_all, position, position_or_len}
 use Rattle.std.proofs.lemmas.Bool.{lt-ltb, le-ltb, true≢false, cases_lt, and_parts, and_from}
 use Rattle.std.proofs.lemmas.List.{get_or_past}
 use Rattle.std.proofs.lemmas.List.Sums.{position_or_len_is, fails_before_first}
@@ -36,6 +36,16 @@ pub none_owing : (name : Name) (slots : List (Option NetCopy)) → ((j : ℕ) �
 none_owing name slots before =
     let is : position_or_len (owes_tile name) slots ≡ length slots = position_or_len_is (owes_tile name) slots (length slots) None (omega arith) before (λ past. absurd (omega arith)) in
     rw (is, le-ltb (length slots) (length slots) (omega arith))
+
+-- none owes in an empty port
+pub none_vacant : (name : Name) (slots : List (Option NetCopy)) → list_all is_none slots ≡ true → position (owes_tile name) slots ≡ None
+none_vacant name slots vacant = none_owing name slots (λ j below. owes_none slots j vacant)
+  where
+    owes_none : (slots : List (Option NetCopy)) (j : ℕ) → list_all is_none slots ≡ true → owes_tile name (get_or slots j None) ≡ false
+    owes_none [] j vacant = refl
+    owes_none (None ∷ slots) zero vacant = refl
+    owes_none (None ∷ slots) (suc j) vacant = owes_none slots j vacant
+    owes_none (Some copy ∷ slots) j vacant = cc
 
 -- ---- the first place of a router
 

@@ -1,6 +1,7 @@
 -- What the steps of the request routers do, from what a call finds.
 use Rattle.std.proofs.Common.{◌≡◌, ◌≢◌, ℕ, Bool, true, false, refl, sym, ◌∙◌, ap, subst, arith, Option, Some, None}
 use Rattle.std.specs.Prelude.{is_some, ◌&&◌, IfSome, IfNone}
+use Rattle.std.specs.Bool.{OnTrue, OnFalse}
 use Rattle.std.specs.Option.{option_or}
 use Rattle.mesh_gen.specs.declared.request.Request.{Request}
 use Rattle.mesh_gen.specs.declared.port.Port.{Port}
@@ -16,7 +17,7 @@ use Rattle.chip_model.specs.declared.net_copy.NetCopy.{NetCopy}
 use Rattle.chip_model.specs.Partial.{◌>>=◌, when}
 use Rattle.chip_model.specs.Copies.{Name, channels_of, arriving, left_by, owes, after_entry, entry_slot, expects, after_hop, local_place, after_serve}
 use Rattle.router_xy.specs.declared.way.Way.{Way}
-use Rattle.router_xy.specs.RequestNetwork.{IsOpenHop}
+use Rattle.router_xy.specs.RequestNetwork.{IsOpenHop, is_owed}
 
 -- ---- a channel that takes a copy in is free
 pub lowest_is_free : (channels : Channels NetCopy) (p slot : ℕ) → lowest_free channels p ≡ Some slot → IsFree channels p slot
@@ -89,6 +90,30 @@ no_copy g net r port slot out expected stands = rw stands
 pub not_owed : (g : Grid) (net : Network NetCopy) (r : ℕ) (port : Port) (slot : ℕ) (out : Port) (expected : Option Name) (copy : NetCopy) → at net r (port_number port) slot ≡ Some copy → owes copy out ≡ false → after_hop g net r port slot out expected ≡ None
 unfolding after_hop
 not_owed g net r port slot out expected copy stands owed = rw (stands, owed)
+
+-- the same of an answer that no copy is there, or none that owes the port
+pub no_copies_in : (g : Grid) (net : Network NetCopy) (r : ℕ) (port : Port) (answer : Bool) → OnTrue answer ((slot : ℕ) → at net r (port_number port) slot ≡ None)
+    → OnTrue answer ((slot : ℕ) (out : Port) (expected : Option Name) → after_hop g net r port slot out expected ≡ None)
+no_copies_in g net r port true none = λ slot out expected. no_copy g net r port slot out expected (none slot)
+no_copies_in g net r port false none = tt
+
+pub not_held : (g : Grid) (net : Network NetCopy) (r : ℕ) (port : Port) (slot : ℕ) (answer : Bool) → answer ≡ is_some (at net r (port_number port) slot)
+    → OnFalse answer ((out : Port) (expected : Option Name) → after_hop g net r port slot out expected ≡ None)
+not_held g net r port slot true is = tt
+not_held g net r port slot false is = λ out expected. no_copy g net r port slot out expected (none_of (at net r (port_number port) slot) is)
+  where
+    none_of : (found : Option NetCopy) → false ≡ is_some found → found ≡ None
+    none_of None is = refl
+    none_of (Some copy) is = cc
+
+pub not_owing : (g : Grid) (net : Network NetCopy) (r : ℕ) (port : Port) (slot : ℕ) (out : Port) (answer : Bool) → answer ≡ is_owed out (at net r (port_number port) slot)
+    → OnFalse answer ((expected : Option Name) → after_hop g net r port slot out expected ≡ None)
+not_owing g net r port slot out true is = tt
+not_owing g net r port slot out false is = λ expected. by (at net r (port_number port) slot) refl is expected
+  where
+    by : (found : Option NetCopy) → at net r (port_number port) slot ≡ found → false ≡ is_owed out found → (expected : Option Name) → after_hop g net r port slot out expected ≡ None
+    by None stands is expected = no_copy g net r port slot out expected stands
+    by (Some copy) stands is expected = not_owed g net r port slot out expected copy stands (sym is)
 
 pub no_router : (g : Grid) (net : Network NetCopy) (r : ℕ) (port : Port) (slot : ℕ) (out : Port) (expected : Option Name) (copy : NetCopy) → at net r (port_number port) slot ≡ Some copy → owes copy out ≡ true → neighbour g r out ≡ None
     → after_hop g net r port slot out expected ≡ None

@@ -1,5 +1,5 @@
 -- The request routers as plain data, and what stands in their channels.
-use Rattle.std.specs.Prelude.{◌≡◌, ℕ, true, false, Option, Some, option_map}
+use Rattle.std.specs.Prelude.{◌≡◌, ℕ, Bool, true, false, Option, Some, None, option_map}
 use Rattle.mesh_gen.specs.declared.port.Port.{Port}
 use Rattle.mesh_gen.specs.declared.port.Port.TheVariants.{L}
 use Rattle.mesh_gen.specs.Grid.{Grid, neighbour}
@@ -22,6 +22,11 @@ pub record RequestNetwork : Type 0 where
 -- no copy of a request stands in any channel
 abbrev pub IsAbsent : Network NetCopy → Name → Type 0
 IsAbsent net name = (router port slot : ℕ) (copy : NetCopy) → at net router port slot ≡ Some copy → is_named name copy.request ≡ false
+
+-- whether a channel holds a copy that owes an output port
+abbrev pub is_owed : Port → Option NetCopy → Bool
+is_owed out None = false
+is_owed out (Some copy) = owes copy out
 
 -- a copy owes an output port, there is a router there, and a channel of it takes the copy in
 pub record IsOpenHop (g : Grid) (net : Network NetCopy) (r : ℕ) (port : Port) (slot : ℕ) (out : Port) (expected : Option Name) (way : Way) : Type 0 where

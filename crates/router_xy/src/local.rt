@@ -1,5 +1,5 @@
 //! The copy of a request that owes the router's own tile.
-ghost use Rattle.std.specs.Prelude.{◌≡◌, ◌≤◌, ℕ, length};
+ghost use Rattle.std.specs.Prelude.{◌≡◌, length};
 ghost use Rattle.std.specs.List.{position};
 ghost use Rattle.mesh_gen.specs.Ports.{port_number};
 ghost use Rattle.vc_bank.specs.Channels.{slots_at};
@@ -11,15 +11,14 @@ use chip_model::NetCopy;
 use mesh_gen::Port;
 use vc_bank::Bank;
 
-// As many slots as a port can have.
-const MOST_SLOTS: u8 = 9;
-
 // The first slot of a port with such a copy.
 fn slot_owing(bank: &Bank<NetCopy>, port: Port, id: (u8, u32)) -> Option<u8>
-    requires { length (slots_at bank.now (port_number port)) ≤ 9 }
     ensures { result ≡ position (owes_tile id) (slots_at bank.now (port_number port)) }
 {
-    for slot in 0..MOST_SLOTS {
+    if bank.is_vacant(port) {
+        return None;
+    }
+    for slot in 0..bank.slot_count(port) {
         if owes_tile(id, bank.at(port, slot)) {
             return Some(slot);
         }
@@ -29,8 +28,7 @@ fn slot_owing(bank: &Bank<NetCopy>, port: Port, id: (u8, u32)) -> Option<u8>
 
 // The first place of a router with such a copy, by its port and slot.
 pub(crate) fn place_owing(bank: &Bank<NetCopy>, id: (u8, u32)) -> Option<(Port, u8)>
-    requires ports { length bank.now ≡ 5 }
-    requires slots { (port : ℕ) → length (slots_at bank.now port) ≤ 9 }
+    requires { length bank.now ≡ 5 }
     ensures { numbered result ≡ local_place_from id 0 bank.now }
 {
     if let Some(slot) = slot_owing(bank, Port::L, id) {

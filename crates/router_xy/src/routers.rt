@@ -1,10 +1,14 @@
-ghost use Rattle.std.specs.Prelude.{◌≡◌, ◌<◌, ◌≤◌, ◌+◌, ◌*◌, Some, None, true, IsSome, IfOk, IfSome, IfNone, OnOk, OnErr, is_some};
+ghost use Rattle.std.specs.Prelude.{◌≡◌, ◌<◌, ◌≤◌, ◌+◌, ◌*◌, ℕ, Option, Some, None, true, IsSome, IfOk, OnOk, OnErr, is_some};
+ghost use Rattle.std.specs.Bool.{OnTrue, OnFalse};
+ghost use Rattle.mesh_gen.specs.declared.port.Port.{Port};
 ghost use Rattle.mesh_gen.specs.Grid.{tiles};
 ghost use Rattle.mesh_gen.specs.Mesh.{grid};
-ghost use Rattle.chip_model.specs.Copies.{no_copies, name_of, after_entry, after_hop, local_place, after_serve};
+ghost use Rattle.mesh_gen.specs.Ports.{port_number};
+ghost use Rattle.vc_bank.specs.Places.{at, vacant};
+ghost use Rattle.chip_model.specs.Copies.{Name, no_copies, name_of, after_entry, after_hop, local_place, after_serve};
 ghost use Rattle.chip_model.specs.CopiesOwed.{CopiesFit, OwesMore, OwesSame, OwesLess, NoneComes, ComesAlone, ReservesExpected, ReservesNothing};
 ghost use Rattle.chip_model.specs.NetworkShape.{HasChannels};
-ghost use Rattle.router_xy.specs.RequestNetwork.{IsAbsent, IsOpenHop, numbered, arrived};
+ghost use Rattle.router_xy.specs.RequestNetwork.{IsAbsent, is_owed, arrived};
 
 use crate::banks::entry_slot;
 use crate::copies::{expects, left_by};
@@ -14,7 +18,7 @@ use chip_model::NetCopy;
 use mesh_gen::{Mesh, NoChannel, NoMemory, NotEnabled, Port, Request};
 use std::alloc::Global;
 use std::marker::Model;
-use vc_bank::{Bank, empty_banks, free_slot, leave, packet_at, put_into};
+use vc_bank::{Bank, empty_banks, free_slot, holds_packet, is_vacant, leave, packet_at, put_into};
 
 /// The copies of requests in the channels of all routers. Contracts see the grid of the routers, how many normal channels
 /// a port has, and the copies.
@@ -130,6 +134,36 @@ impl Routers {
         leave(&mut self.banks, r, port, slot, left_by(out, way.copy));
         put_into(&mut self.banks, way.to, out.opposite(), way.entry, copy);
         Ok(())
+    }
+
+    /// Whether no channel of a port of the router `r` holds a copy.
+    pub fn is_vacant(&self, r: u8, port: Port) -> bool
+        ensures vacant { result ≡ vacant self.now.copies r (port_number port) }
+        ensures none { OnTrue result ((slot : ℕ) (out : Port) (expected : Option Name)
+            → after_hop self.now.grid self.now.copies r port slot out expected ≡ None) }
+    {
+        is_vacant(&self.banks, r, port)
+    }
+
+    /// Whether a channel holds a copy.
+    pub fn holds(&self, r: u8, port: Port, slot: u8) -> bool
+        ensures holds { result ≡ is_some (at self.now.copies r (port_number port) slot) }
+        ensures none { OnFalse result ((out : Port) (expected : Option Name)
+            → after_hop self.now.grid self.now.copies r port slot out expected ≡ None) }
+    {
+        holds_packet(&self.banks, r, port, slot)
+    }
+
+    /// Whether a channel holds a copy that has to leave by the port `out`.
+    pub fn owes(&self, r: u8, port: Port, slot: u8, out: Port) -> bool
+        ensures owed { result ≡ is_owed out (at self.now.copies r (port_number port) slot) }
+        ensures none { OnFalse result ((expected : Option Name)
+            → after_hop self.now.grid self.now.copies r port slot out expected ≡ None) }
+    {
+        match packet_at(&self.banks, r, port, slot) {
+            Some(copy) => copy.owed.has(out),
+            None => false,
+        }
     }
 
     /// Whether a channel of the router holds a copy of the request that owes the router's own tile.

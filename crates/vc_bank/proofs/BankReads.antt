@@ -1,10 +1,13 @@
 -- What a call on one router's channels says of the channels of all routers.
-use Rattle.std.proofs.Common.{◌≡◌, ℕ, ◌≤◌, sym, ◌∙◌, ap, subst, arith, Option, None, [], length, set, get_or}
-use Rattle.std.specs.Prelude.{IsSome}
+use Rattle.std.proofs.Common.{◌≡◌, ℕ, ◌≤◌, sym, ◌∙◌, ap, subst, arith, Bool, true, false, Option, None, [], length, set, get_or}
+use Rattle.std.specs.Prelude.{IsSome, is_none}
+use Rattle.std.specs.Bool.{OnTrue}
+use Rattle.std.specs.List.{list_all}
 use Rattle.std.proofs.lemmas.List.{get_or_past}
-use Rattle.vc_bank.specs.Channels.{Channels, packet_at, with_packet}
-use Rattle.vc_bank.specs.Places.{Network, at, put}
-use Rattle.vc_bank.proofs.PlaceLaws.{at-bank, put-bank}
+use Rattle.vc_bank.specs.Channels.{Channels, slots_at, packet_at, with_packet}
+use Rattle.vc_bank.specs.Places.{Network, slots, at, put, vacant}
+use Rattle.vc_bank.proofs.PlaceLaws.{at-bank, put-bank, slots-bank}
+use Rattle.vc_bank.proofs.PacketCounts.{at-vacant}
 
 own_bank : {P : Type 0} (net : Network P) (k r : ℕ) (bank : Channels P) → k ≡ r → bank ≡ get_or net k [] → bank ≡ get_or net r []
 own_bank {P} net k r bank same is = is ∙ ap (λ (n : ℕ). get_or net n []) same
@@ -25,3 +28,16 @@ held_in {P} net k r p i bank same is held = subst (λ (packet : Option P). IsSom
 
 pub held_past : {P : Type 0} (net : Network P) (k r p i : ℕ) → k ≡ r → length net ≤ k → IsSome (at net r p i) → ⊥
 held_past {P} net k r p i same past held = let none = subst (λ (packet : Option P). IsSome packet) (sym (read_past net k r p i same past)) held in cc
+
+-- ---- the slots of a port, of which a call says whether all are empty
+pub vacant_in : {P : Type 0} (net : Network P) (k r p : ℕ) (bank : Channels P) → k ≡ r → bank ≡ get_or net k [] → list_all is_none (slots_at bank p) ≡ vacant net r p
+unfolding vacant
+vacant_in net k r p bank same is = ap (list_all is_none) (slots-bank net bank r p (own_bank net k r bank same is))
+
+pub vacant_past : {P : Type 0} (net : Network P) (k r p : ℕ) → k ≡ r → length net ≤ k → true ≡ vacant net r p
+unfolding vacant slots
+vacant_past net k r p same past = rw (get_or_past net r [] (omega arith))
+
+pub vacant_at : {P : Type 0} (net : Network P) (r p : ℕ) (answer : Bool) → answer ≡ vacant net r p → OnTrue answer ((i : ℕ) → at net r p i ≡ None)
+vacant_at net r p true is = λ i. at-vacant net r p i (sym is)
+vacant_at net r p false is = tt

@@ -14,6 +14,16 @@ slots_at bank port = slice_index_or bank port []
 abbrev pub packet_at : {P : Type 0} → Channels P → ℕ → ℕ → Option P
 packet_at bank port slot = slice_index_or (slots_at bank port) slot None
 
+-- how many packets a slot has
+abbrev pub in_slot : {P : Type 0} → Option P → ℕ
+in_slot None = 0
+in_slot (Some packet) = 1
+
+-- how many packets all slots of a port have
+abbrev pub packet_count : {P : Type 0} → List (Option P) → ℕ
+packet_count [] = 0
+packet_count (packet ∷ slots) = in_slot packet + packet_count slots
+
 -- the channels with this in a slot
 abbrev pub with_packet : {P : Type 0} → Channels P → ℕ → ℕ → Option P → Channels P
 with_packet bank port slot packet = slice_set bank port (slice_set (slots_at bank port) slot packet)

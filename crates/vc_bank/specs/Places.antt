@@ -1,5 +1,6 @@
 -- The channels of all routers: for each router, by its number, its channels. They are read and changed by their places alone.
-use Rattle.std.specs.Prelude.{ℕ, suc, ◌+◌, ◌<◌, List, [], ◌∷◌, length, Option, Some, None, slice_index_or, slice_set}
+use Rattle.std.specs.Prelude.{Bool, is_none, ℕ, suc, ◌+◌, ◌<◌, List, [], ◌∷◌, length, Option, Some, None, slice_index_or, slice_set}
+use Rattle.std.specs.List.{list_all}
 use Rattle.vc_bank.specs.Channels.{Channels, slots_at, packet_at, with_packet}
 
 -- the virtual channels of all routers
@@ -13,6 +14,10 @@ slots network router port = slots_at (slice_index_or network router []) port
 -- the packet in a slot, if the slot is there and is not empty
 unfoldable pub at : {P : Type 0} → Network P → ℕ → ℕ → ℕ → Option P
 at network router port slot = packet_at (slice_index_or network router []) port slot
+
+-- no slot of a router's port holds a packet
+unfoldable pub vacant : {P : Type 0} → Network P → ℕ → ℕ → Bool
+vacant network router port = list_all is_none (slots network router port)
 
 -- the channels with this in a slot
 unfoldable pub put : {P : Type 0} → Network P → ℕ → ℕ → ℕ → Option P → Network P

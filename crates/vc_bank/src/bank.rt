@@ -1,9 +1,10 @@
-ghost use Rattle.std.specs.Prelude.{◌≡◌, ◌<◌, ℕ, Some, None, IsSome, IfSome, IfNone, slice_index_or, []};
+ghost use Rattle.std.specs.Prelude.{◌≡◌, ◌<◌, ℕ, Some, None, IsSome, IfSome, IfNone, is_none, is_some, length};
+ghost use Rattle.std.specs.List.{list_all};
 ghost use Rattle.mesh_gen.specs.Limits.{IsFrom};
 ghost use Rattle.mesh_gen.specs.Ports.{port_number};
 ghost use Rattle.vc_bank.specs.Channels.{slots_at, packet_at, with_packet, empty_channels, IsFree, normal_slots, lowest_free, IsLowestFree, reserved_free, ChangesOnly};
 
-use crate::slots::{Slots, empty_slots, first_free, is_free, write};
+use crate::slots::{Slots, first_free, is_free};
 use mesh_gen::Port;
 use std::marker::Model;
 
@@ -24,8 +25,7 @@ impl<P: Copy> Model for Bank<P> {
 
     ghost Value = { Channels P };
 
-    ghost view = { λ bank. bank.local.items ∷ bank.east.items ∷ bank.west.items ∷ bank.north.items
-        ∷ bank.south.items ∷ [] };
+    ghost view = { λ bank. bank.local ∷ bank.east ∷ bank.west ∷ bank.north ∷ bank.south ∷ [] };
 }
 
 impl<P: Copy> Bank<P> {
@@ -37,11 +37,24 @@ impl<P: Copy> Bank<P> {
     {
         let count = normal + u8::from(reserved);
         Bank {
-            local: empty_slots(normal),
-            east: empty_slots(count),
-            west: empty_slots(count),
-            north: empty_slots(count),
-            south: empty_slots(count),
+            local: Slots::empty(normal),
+            east: Slots::empty(count),
+            west: Slots::empty(count),
+            north: Slots::empty(count),
+            south: Slots::empty(count),
+        }
+    }
+
+    // The port of this name.
+    fn port(&self, port: Port) -> &Slots<P>
+        ensures { result.now ≡ slots_at self.now (port_number port) }
+    {
+        match port {
+            Port::L => &self.local,
+            Port::E => &self.east,
+            Port::W => &self.west,
+            Port::N => &self.north,
+            Port::S => &self.south,
         }
     }
 
@@ -49,12 +62,30 @@ impl<P: Copy> Bank<P> {
     fn slots(&self, port: Port) -> &[Option<P>]
         ensures { result.now ≡ slots_at self.now (port_number port) }
     {
-        match port {
-            Port::L => self.local.as_slice(),
-            Port::E => self.east.as_slice(),
-            Port::W => self.west.as_slice(),
-            Port::N => self.north.as_slice(),
-            Port::S => self.south.as_slice(),
+        self.port(port).as_slice()
+    }
+
+    /// How many slots a port has, with the reserved one.
+    pub fn slot_count(&self, port: Port) -> u8
+        ensures { result ≡ length (slots_at self.now (port_number port)) }
+    {
+        self.port(port).count()
+    }
+
+    /// Whether no slot of a port holds a packet.
+    pub fn is_vacant(&self, port: Port) -> bool
+        ensures { result ≡ list_all is_none (slots_at self.now (port_number port)) }
+    {
+        self.port(port).is_vacant()
+    }
+
+    /// Whether a slot holds a packet.
+    pub fn holds(&self, port: Port, slot: u8) -> bool
+        ensures { result ≡ is_some (packet_at self.now (port_number port) slot) }
+    {
+        match self.slots(port).get(usize::from(slot)) {
+            Some(packet) => packet.is_some(),
+            None => false,
         }
     }
 
@@ -62,7 +93,7 @@ impl<P: Copy> Bank<P> {
     fn normal(&self) -> u8
         ensures { result ≡ normal_slots self.now }
     {
-        self.local.len() as u8
+        self.local.count()
     }
 
     /// The lowest normal slot of the port that is free.
@@ -94,11 +125,11 @@ impl<P: Copy> Bank<P> {
         ensures { self.new ≡ with_packet self.old (port_number port) slot packet }
     {
         match port {
-            Port::L => write(&mut self.local, slot, packet),
-            Port::E => write(&mut self.east, slot, packet),
-            Port::W => write(&mut self.west, slot, packet),
-            Port::N => write(&mut self.north, slot, packet),
-            Port::S => write(&mut self.south, slot, packet),
+            Port::L => self.local.write(slot, packet),
+            Port::E => self.east.write(slot, packet),
+            Port::W => self.west.write(slot, packet),
+            Port::N => self.north.write(slot, packet),
+            Port::S => self.south.write(slot, packet),
         }
     }
 

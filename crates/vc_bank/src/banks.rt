@@ -1,9 +1,10 @@
 //! The channels of all routers: for each router, by its number, a bank.
-ghost use Rattle.std.specs.Prelude.{◌≡◌, Some, None, IfOk, IsSome, replicate, slice_index_or, []};
+ghost use Rattle.std.specs.Prelude.{◌≡◌, ℕ, Some, None, IfOk, IsSome, is_some, replicate, slice_index_or, []};
+ghost use Rattle.std.specs.Bool.{OnTrue};
 ghost use Rattle.mesh_gen.specs.Limits.{IsFrom};
 ghost use Rattle.mesh_gen.specs.Ports.{port_number};
 ghost use Rattle.vc_bank.specs.Channels.{empty_channels, lowest_free, IsFree};
-ghost use Rattle.vc_bank.specs.Places.{at, put};
+ghost use Rattle.vc_bank.specs.Places.{at, put, vacant};
 
 use crate::Bank;
 use mesh_gen::{NoMemory, Port};
@@ -34,6 +35,27 @@ pub fn packet_at<P: Copy>(banks: &[Bank<P>], r: u8, port: Port, slot: u8) -> Opt
     match banks.get(usize::from(r)) {
         Some(bank) => bank.at(port, slot),
         None => None,
+    }
+}
+
+/// Whether a slot holds a packet.
+pub fn holds_packet<P: Copy>(banks: &[Bank<P>], r: u8, port: Port, slot: u8) -> bool
+    ensures { result ≡ is_some (at banks.now r (port_number port) slot) }
+{
+    match banks.get(usize::from(r)) {
+        Some(bank) => bank.holds(port, slot),
+        None => false,
+    }
+}
+
+/// Whether no slot of a router's port holds a packet.
+pub fn is_vacant<P: Copy>(banks: &[Bank<P>], r: u8, port: Port) -> bool
+    ensures vacant { result ≡ vacant banks.now r (port_number port) }
+    ensures none { OnTrue result ((slot : ℕ) → at banks.now r (port_number port) slot ≡ None) }
+{
+    match banks.get(usize::from(r)) {
+        Some(bank) => bank.is_vacant(port),
+        None => true,
     }
 }
 
