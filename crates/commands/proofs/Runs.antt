@@ -1,46 +1,76 @@
--- From what a command did with a document to what it did with its input.
+-- From what a command did with its document to what it did with its input.
 use Rattle.std.proofs.Common.{◌≡◌, ◌≤◌, ℕ, List, length, Option, Some, None, Result, Ok, Err, refl, sym, subst}
 use Rattle.std.specs.Prelude.{IfSome, IfErr}
 use Rattle.outside_io.specs.Streams.{Stream, Appends, AppendsPart, Writes}
 use Rattle.report_text.specs.declared.report.Report.{Report}
-use Rattle.report_text.specs.Report.{report_text}
-use Rattle.doc_text.specs.Doc.{Doc}
+use Rattle.doc_text.specs.declared.document.Document.{Document}
+use Rattle.doc_text.specs.Doc.{Doc, doc_of}
 use Rattle.mesh_doc.specs.Reading.{reading}
+use Rattle.load_gen.specs.Load.{load}
 use Rattle.commands.specs.declared.command.Command.{Command}
-use Rattle.commands.specs.declared.command.Command.TheVariants.{Step}
 use Rattle.commands.specs.declared.stop.Stop.{Stop}
 use Rattle.commands.specs.declared.stop.Stop.TheVariants.{Usage, Document as Faulty, ReadFault, WriteFault, NoMemory, TooLong}
-use Rattle.commands.specs.Input.{HasText, input_limit}
-use Rattle.commands.specs.Outcome.{Did, Ran}
-use Rattle.commands.specs.Steps.{IsReportOfSteps}
-use Rattle.commands.specs.Texts.{IsTextOf}
+use Rattle.commands.specs.Arguments.{load_of}
+use Rattle.commands.specs.Input.{OfDocument, input_limit}
+use Rattle.commands.specs.Outcome.{Did, IsRead, IsTaken, Ran}
+use Rattle.commands.specs.Texts.{IsTextOf, IsReportOf, HasReport, told_of}
 
--- the input is this document
-abbrev pub Describes : Doc → Option (List ℕ) → Type 0
-Describes doc input = IfSome input (λ bytes. (length bytes ≤ input_limit) × (reading bytes ≡ Ok doc))
+-- what follows for each document follows for that of a command
+of_document : (number : Option ℕ) (input : Option (List ℕ)) (Holds Wanted : Doc → Type 0) → ((doc : Doc) → Holds doc → Wanted doc)
+    → OfDocument number input Holds → OfDocument number input Wanted
+of_document (Some number) input Holds Wanted so held = so (load number) held
+of_document None None Holds Wanted so held = tt
+of_document None (Some bytes) Holds Wanted so (doc, is, held) = (doc, is, so doc held)
 
--- a text of the document is one of the input
-text_of_input : (command : Command) (doc : Doc) (report : Option Report) (input : Option (List ℕ)) (Out : List ℕ → Type 0) → Describes doc input
-    → (text : List ℕ) × IsTextOf command doc report text × Out text
-    → IfSome input (λ bytes. (text : List ℕ) × HasText command bytes report text × Out text)
-text_of_input command doc report None Out reads (text, is, out) = tt
-text_of_input command doc report (Some bytes) Out reads (text, is, out) =
-    (text, record { limited = reads.0; doc = doc; accepted = reads.1; text_is = is }, out)
+-- a document that the input describes
+described : (input : Option (List ℕ)) (document : Doc) → IfSome input (λ bytes. (length bytes ≤ input_limit) × (reading bytes ≡ Ok document))
+    → OfDocument None input (λ doc. doc ≡ document)
+described None document reads = tt
+described (Some bytes) document reads = (document, record { limited = reads.0; accepted = reads.1 }, refl)
 
-pub ran : (command : Command) (doc : Doc) (source sink : Stream) (report : Option Report) (result : Result Unit Stop)
-    → Describes doc source.old → Did command doc sink report result → Ran command source sink report result
-ran command doc source sink report (Ok done) reads did = (text_of_input command doc report source.old (Appends sink.old sink.new) reads did.0, did.1)
-ran command doc source sink report (Err WriteFault) reads did = (text_of_input command doc report source.old (AppendsPart sink.old sink.new) reads did.0, did.1, did.2)
-ran command doc source sink report (Err NoMemory) reads did = did
-ran command doc source sink report (Err Usage) reads did = absurd did
-ran command doc source sink report (Err (Faulty fault)) reads did = absurd did
-ran command doc source sink report (Err ReadFault) reads did = absurd did
-ran command doc source sink report (Err TooLong) reads did = absurd did
+-- what was read is the document of a command that makes no load
+pub read_is_taken : (source : Stream) (result : Result Document Stop) → IsRead source result → IsTaken None source result
+read_is_taken source (Ok document) read = described source.old (doc_of document) read
+read_is_taken source (Err NoMemory) read = tt
+read_is_taken source (Err Usage) read = (refl, read)
+read_is_taken source (Err (Faulty fault)) read = (refl, read)
+read_is_taken source (Err ReadFault) read = (refl, read)
+read_is_taken source (Err WriteFault) read = (refl, read)
+read_is_taken source (Err TooLong) read = (refl, read)
 
--- the text of a report of `step` was written
-pub steps_were_written : (pace budget : ℕ) (doc : Doc) (sink : Stream) (report : Report) (result : Result Unit Stop)
-    → IsReportOfSteps pace budget doc report → Writes sink (report_text report) result → IfErr result (λ stop. stop ≡ WriteFault)
-    → Did (Step pace budget) doc sink (Some report) result
-steps_were_written pace budget doc sink report (Ok done) is writes fault = ((report_text report, (is, refl), writes.ok), refl)
-steps_were_written pace budget doc sink report (Err stop) is writes fault =
-    subst (λ (end : Stop). Did (Step pace budget) doc sink (Some report) (Err end)) (sym fault) ((report_text report, (is, refl), writes.err), writes.fault, refl)
+-- a command that has no document writes nothing
+pub ran_without : (command : Command) (source sink : Stream) (stop : Stop) → IsTaken (load_of command) source (Err stop) → sink.new ≡ sink.old
+    → Ran command source sink None (Err stop)
+ran_without command source sink NoMemory taken same = (same, refl)
+ran_without command source sink Usage taken same = absurd taken.1
+ran_without command source sink (Faulty fault) taken same = (taken.0, taken.1, same, refl)
+ran_without command source sink ReadFault taken same = (taken.0, taken.1, same, refl)
+ran_without command source sink WriteFault taken same = absurd taken.1
+ran_without command source sink TooLong taken same = (taken.0, taken.1, same, refl)
+
+-- what was written of a document was written of that of the command
+written_for : (command : Command) (document : Doc) (input : Option (List ℕ)) (report : Option Report) (Out : List ℕ → Type 0)
+    → OfDocument (load_of command) input (λ doc. doc ≡ document) → (text : List ℕ) × IsTextOf command document report text × Out text
+    → OfDocument (load_of command) input (λ doc. (text : List ℕ) × IsTextOf command doc report text × Out text)
+written_for command document input report Out taken written =
+    of_document (load_of command) input (λ doc. doc ≡ document) (λ doc. (text : List ℕ) × IsTextOf command doc report text × Out text)
+    (λ doc is. subst (λ (d : Doc). (text : List ℕ) × IsTextOf command d report text × Out text) (sym is) written) taken
+
+pub ran : (command : Command) (document : Doc) (source sink : Stream) (report : Option Report) (result : Result Unit Stop)
+    → OfDocument (load_of command) source.old (λ doc. doc ≡ document) → Did command document sink report result → Ran command source sink report result
+ran command document source sink report (Ok done) taken did = (written_for command document source.old report (Appends sink.old sink.new) taken did.0, did.1)
+ran command document source sink report (Err WriteFault) taken did =
+    (written_for command document source.old report (AppendsPart sink.old sink.new) taken did.0, did.1, did.2)
+ran command document source sink report (Err NoMemory) taken did = did
+ran command document source sink report (Err Usage) taken did = absurd did
+ran command document source sink report (Err (Faulty fault)) taken did = absurd did
+ran command document source sink report (Err ReadFault) taken did = absurd did
+ran command document source sink report (Err TooLong) taken did = absurd did
+
+-- what a command tells of its report was written
+pub report_was_written : (command : Command) (doc : Doc) (sink : Stream) (report : Report) (result : Result Unit Stop)
+    → IsReportOf command doc report → HasReport command (Some report) → Writes sink (told_of command report) result → IfErr result (λ stop. stop ≡ WriteFault)
+    → Did command doc sink (Some report) result
+report_was_written command doc sink report (Ok done) is has writes fault = ((told_of command report, (is, refl), writes.ok), has)
+report_was_written command doc sink report (Err stop) is has writes fault =
+    subst (λ (end : Stop). Did command doc sink (Some report) (Err end)) (sym fault) ((told_of command report, (is, refl), writes.err), writes.fault, has)

@@ -6,13 +6,17 @@ use Rattle.mesh_gen.specs.Limits.{IsFrom}
 use Rattle.mesh_gen.specs.Partial.{◌>>=◌}
 use Rattle.core_isa.specs.Operands.{is_digits, number_value}
 use Rattle.commands.specs.declared.command.Command.{Command}
-use Rattle.commands.specs.declared.command.Command.TheVariants.{Order, Show, Deliver, Step}
+use Rattle.commands.specs.declared.command.Command.TheVariants.{Order, Show, Deliver, Step, Gen, GenText}
 use Rattle.commands.specs.declared.options.StepOption.{StepOption}
 use Rattle.commands.specs.declared.options.StepOption.TheVariants.{Pace, Budget}
 
 -- the greatest pace
 abbrev pub most_pace : ℕ
 most_pace = 4294967295
+
+-- the greatest number of a load
+abbrev pub most_load : ℕ
+most_load = 4294967295
 
 -- the greatest budget of events
 abbrev pub most_budget : ℕ
@@ -26,6 +30,10 @@ default_budget = 1000000
 abbrev pub number_within : ℕ → ℕ → List ℕ → Option ℕ
 number_within least most word =
     if is_digits word && (nat_le least (number_value word) && nat_le (number_value word) most) then Some (number_value word) else None
+
+-- the number of a load that a word is
+abbrev pub load_numbered : List ℕ → Option ℕ
+load_numbered word = number_within 0 most_load word
 
 -- the option of a name and a number
 abbrev pub option_named : List ℕ → List ℕ → Option StepOption
@@ -55,6 +63,12 @@ abbrev pub KeepsLimits : Command → Type 0
 KeepsLimits (Step pace budget) = IsFrom 1 most_budget budget
 KeepsLimits command = ⊤
 
+-- the number of the load that a command makes, in place of a document that it reads
+abbrev pub load_of : Command → Option ℕ
+load_of (Gen number) = Some number
+load_of (GenText number) = Some number
+load_of command = None
+
 -- the command that one word is the form of
 abbrev pub named : List ℕ → Option Command
 named word =
@@ -67,8 +81,12 @@ named word =
 -- the command of these arguments; none where they are the form of no command
 abbrev pub command_named : List (List ℕ) → Option Command
 command_named (word ∷ []) = named word
-command_named (word ∷ name ∷ number ∷ []) =
-    if bytes_eq word (codes "step") then option_map step_by (option_named name number) else None
+command_named (word ∷ number ∷ []) =
+    if bytes_eq word (codes "gen") then option_map Gen (load_numbered number) else None
+command_named (word ∷ second ∷ third ∷ []) =
+    if bytes_eq word (codes "step") then option_map step_by (option_named second third)
+    else if bytes_eq word (codes "gen") && bytes_eq third (codes "--text") then option_map GenText (load_numbered second)
+    else None
 command_named (word ∷ name ∷ number ∷ other_name ∷ other_number ∷ []) =
     if bytes_eq word (codes "step")
     then (do

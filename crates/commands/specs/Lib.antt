@@ -3,6 +3,7 @@ pub mod Deliveries
 pub mod Entries
 pub mod Input
 pub mod Line
+pub mod Loads
 pub mod Outcome
 pub mod Steps
 pub mod Stops

@@ -8,7 +8,8 @@ use Rattle.mesh_doc.specs.Reading.{reading}
 use Rattle.commands.specs.declared.command.Command.{Command}
 use Rattle.commands.specs.declared.stop.Stop.{Stop}
 use Rattle.commands.specs.declared.stop.Stop.TheVariants.{Usage, Document as Faulty, ReadFault, WriteFault, NoMemory, TooLong}
-use Rattle.commands.specs.Input.{HasFault, WritesFor, WritesPartFor, IsTooLong, input_limit}
+use Rattle.commands.specs.Arguments.{load_of}
+use Rattle.commands.specs.Input.{HasFault, OfDocument, WritesFor, WritesPartFor, IsTooLong, input_limit}
 use Rattle.commands.specs.Texts.{IsTextOf, HasReport}
 
 -- of writing a text: all of it, or a prefix after the sink failed, or nothing where there is no memory
@@ -26,7 +27,7 @@ WroteSome IsText sink (Err WriteFault) = ((text : List ℕ) × IsText text × Ap
 WroteSome IsText sink (Err NoMemory) = sink.new ≡ sink.old
 WroteSome IsText sink (Err _) = ⊥
 
--- of a command that ran over a document, with this report or none
+-- of a command that has its document, with this report or none
 abbrev pub Did : Command → Doc → Stream → Option Report → Result Unit Stop → Type 0
 Did command doc sink report (Ok done) = ((text : List ℕ) × IsTextOf command doc report text × Appends sink.old sink.new text) × HasReport command report
 Did command doc sink report (Err WriteFault) =
@@ -43,12 +44,20 @@ IsRead source (Err NoMemory) = Unit
 IsRead source (Err TooLong) = IsTooLong source.old source.new
 IsRead source (Err _) = ⊥
 
--- of a command that reads a document and writes its text: what was written, the report, and the cause of each refusal
+-- of getting the document of a command: it is the one, or the cause of the refusal. Only where it is read is there another
+-- cause than memory
+abbrev pub IsTaken : Option ℕ → Stream → Result Document Stop → Type 0
+IsTaken number source (Ok document) = OfDocument number source.old (λ doc. doc ≡ doc_of document)
+IsTaken number source (Err NoMemory) = Unit
+IsTaken number source (Err stop) = (number ≡ None) × IsRead source (Err stop)
+
+-- of a command that gets its document and writes its text: what was written, the report, and the cause of each refusal
 abbrev pub Ran : Command → Stream → Stream → Option Report → Result Unit Stop → Type 0
 Ran command source sink report (Ok done) = WritesFor command source.old report sink.old sink.new × HasReport command report
 Ran command source sink report (Err Usage) = ⊥
-Ran command source sink report (Err (Faulty fault)) = IfSome source.old (λ bytes. HasFault bytes fault) × (sink.new ≡ sink.old) × (report ≡ None)
-Ran command source sink report (Err ReadFault) = Rose source.before source.now × (sink.new ≡ sink.old) × (report ≡ None)
+Ran command source sink report (Err (Faulty fault)) =
+    (load_of command ≡ None) × IfSome source.old (λ bytes. HasFault bytes fault) × (sink.new ≡ sink.old) × (report ≡ None)
+Ran command source sink report (Err ReadFault) = (load_of command ≡ None) × Rose source.before source.now × (sink.new ≡ sink.old) × (report ≡ None)
 Ran command source sink report (Err WriteFault) = WritesPartFor command source.old report sink.old sink.new × Rose sink.before sink.now × HasReport command report
 Ran command source sink report (Err NoMemory) = (sink.new ≡ sink.old) × (report ≡ None)
-Ran command source sink report (Err TooLong) = IsTooLong source.old source.new × (sink.new ≡ sink.old) × (report ≡ None)
+Ran command source sink report (Err TooLong) = (load_of command ≡ None) × IsTooLong source.old source.new × (sink.new ≡ sink.old) × (report ≡ None)

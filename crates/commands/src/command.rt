@@ -1,16 +1,18 @@
-ghost use Rattle.std.specs.Prelude.{◌≡◌, map, IfSome};
+ghost use Rattle.std.specs.Prelude.{◌≡◌, [], ◌∷◌, map, IfSome, IsSome};
 ghost use Rattle.outside_io.specs.Streams.{stream};
 ghost use Rattle.doc_text.specs.Doc.{doc_of};
-ghost use Rattle.commands.specs.Arguments.{command_named, named, KeepsLimits};
-ghost use Rattle.commands.specs.Outcome.{Did, IsRead, Ran};
+ghost use Rattle.commands.specs.Arguments.{command_named, named, load_of, KeepsLimits};
+ghost use Rattle.commands.specs.Outcome.{Did, IsRead, IsTaken, Ran};
 ghost use Rattle.commands.specs.declared.command.Command.{Command};
 
 use crate::deliver::write_deliveries;
-use crate::options::{DEFAULT_BUDGET, StepOption};
+use crate::load::write_load_run;
+use crate::options::{DEFAULT_BUDGET, StepOption, load_numbered};
 use crate::order::write_order;
 use crate::show::write_shown;
 use crate::step::write_steps;
 use crate::{Outcome, Stop};
+use load_gen::generate;
 use mesh_doc::{Document, read_document};
 use outside_io::{Sink, Source, read_all};
 use std::alloc::Global;
@@ -33,6 +35,14 @@ pub enum Command {
         /// How many events the run has at most.
         budget: u32,
     },
+    /// Makes the load of a number, runs it by the pace of the same number, and writes a summary of the run.
+    Gen {
+        load: u32,
+    },
+    /// Makes the load of a number, and writes it in its canonical text.
+    GenText {
+        load: u32,
+    },
 }
 
 impl Command {
@@ -43,14 +53,43 @@ impl Command {
     {
         match words {
             [word] => Command::named(word),
-            [word, name, number] if *word == "step" => {
-                Some(StepOption::named(name, number)?.alone())
-            }
+            [word, number] => Command::of_load(word, number),
+            [word, second, third] => Command::with_option(word, second, third),
             [word, name, number, other_name, other_number] if *word == "step" => {
                 let option = StepOption::named(name, number)?;
                 option.beside(StepOption::named(other_name, other_number)?)
             }
             _ => None,
+        }
+    }
+
+    // The command that two words are the form of.
+    fn of_load(word: &str, number: &str) -> Option<Command>
+        ensures named { result ≡ command_named (word.now ∷ number.now ∷ []) }
+        ensures limits { IfSome result KeepsLimits }
+    {
+        if word == "gen" {
+            Some(Command::Gen {
+                load: load_numbered(number)?,
+            })
+        } else {
+            None
+        }
+    }
+
+    // The command that three words are the form of: `step` with an option, or `gen` with its own.
+    fn with_option(word: &str, second: &str, third: &str) -> Option<Command>
+        ensures named { result ≡ command_named (word.now ∷ second.now ∷ third.now ∷ []) }
+        ensures limits { IfSome result KeepsLimits }
+    {
+        if word == "step" {
+            Some(StepOption::named(second, third)?.alone())
+        } else if word == "gen" && third == "--text" {
+            Some(Command::GenText {
+                load: load_numbered(second)?,
+            })
+        } else {
+            None
         }
     }
 
@@ -70,13 +109,24 @@ impl Command {
         }
     }
 
-    /// Reads a document to its end, and writes what the command wants of it.
+    // The load that the command makes in place of a document that it reads.
+    fn load(self) -> Option<u32>
+        ensures { result ≡ load_of self }
+    {
+        match self {
+            Command::Gen { load } | Command::GenText { load } => Some(load),
+            _ => None,
+        }
+    }
+
+    /// Makes the load that the command names, or reads a document to its end, and writes what the command wants of it.
     pub fn run<S: Source, K: Sink>(self, alloc: Global, source: &mut S, sink: &mut K) -> Outcome
         requires { KeepsLimits self }
-        ensures { Ran self (stream S.left S.faults source.old source.new)
+        ensures ran { Ran self (stream S.left S.faults source.old source.new)
             (stream K.held K.faults sink.old sink.new) result.report result.result }
+        ensures unread { IsSome (load_of self) → source.new ≡ source.old }
     {
-        match read_input(alloc, source) {
+        match take_document(alloc, self.load(), source) {
             Ok(document) => self.write(alloc, document, sink),
             Err(stop) => Outcome {
                 report: None,
@@ -93,16 +143,32 @@ impl Command {
     {
         let result = match self {
             Command::Order => write_order(alloc, &document, sink),
-            Command::Show => write_shown(&document, sink),
+            Command::Show | Command::GenText { .. } => write_shown(&document, sink),
             Command::Deliver => write_deliveries(alloc, &document, sink),
             Command::Step { pace, budget } => {
                 return write_steps(alloc, document, pace, budget, sink);
             }
+            Command::Gen { load } => return write_load_run(alloc, document, load, sink),
         };
         Outcome {
             report: None,
             result,
         }
+    }
+}
+
+// The load of this number, or where there is none the document that comes from the source.
+fn take_document<S: Source>(
+    alloc: Global,
+    load: Option<u32>,
+    source: &mut S,
+) -> Result<Document, Stop>
+    ensures taken { IsTaken load (stream S.left S.faults source.old source.new) result }
+    ensures unread { IsSome load → source.new ≡ source.old }
+{
+    match load {
+        Some(number) => Ok(generate(alloc, number)?),
+        None => read_input(alloc, source),
     }
 }
 

@@ -4,12 +4,15 @@
 mod command;
 mod deliver;
 mod line;
+mod load;
 mod options;
 mod order;
 mod outcome;
 mod show;
 mod step;
 mod stop;
+mod summary;
+mod summary_line;
 
 pub use command::Command;
 pub use options::StepOption;

@@ -1,13 +1,15 @@
 ghost use Rattle.std.specs.Prelude.{◌≡◌, IfSome};
 ghost use Rattle.mesh_gen.specs.Limits.{IsFrom};
 ghost use Rattle.std.specs.Str.{all_ascii_digits};
-ghost use Rattle.commands.specs.Arguments.{number_within, option_named, step_by, step_by_both, IsWithinLimits, KeepsLimits};
+ghost use Rattle.commands.specs.Arguments.{number_within, load_numbered, option_named, step_by, step_by_both, IsWithinLimits, KeepsLimits};
 ghost use Rattle.commands.specs.declared.options.StepOption.{StepOption};
 
 use crate::Command;
 
-// The greatest pace.
+// The greatest pace, and the greatest number of a load.
 const MOST_PACE: u32 = u32::MAX;
+
+const MOST_LOAD: u32 = u32::MAX;
 
 /// The greatest budget, and that of a run whose arguments name none.
 const MOST_BUDGET: u32 = 4_000_000;
@@ -62,6 +64,13 @@ impl StepOption {
             _ => None,
         }
     }
+}
+
+/// The number of a load that a word is, where it is one.
+pub(crate) fn load_numbered(word: &str) -> Option<u32>
+    ensures { result ≡ load_numbered word.now }
+{
+    number_within(0, MOST_LOAD, word)
 }
 
 // The number of a word of digits, where it is within these limits.

@@ -61,8 +61,13 @@ fn write_run<K: Sink>(report: Report, sink: &mut K) -> Outcome
     }
 }
 
-// The report of the state in which the sweeps by the pace end.
-fn run_steps(alloc: Global, document: Document, pace: u32, budget: u32) -> Result<Report, NoMemory>
+/// The report of the state in which the sweeps by the pace end.
+pub(crate) fn run_steps(
+    alloc: Global,
+    document: Document,
+    pace: u32,
+    budget: u32,
+) -> Result<Report, NoMemory>
     requires { IsFrom 1 4000000 budget }
     ensures reported { IfOk result (IsReportOfSteps pace budget (doc_of document)) }
     ensures tabular { IfOk result IsTabular }

@@ -8,6 +8,8 @@ mod descriptions;
 #[cfg(test)]
 mod fixtures;
 #[cfg(test)]
+mod loads;
+#[cfg(test)]
 mod outputs;
 #[cfg(test)]
 mod refusals;

@@ -1,19 +1,32 @@
 -- What the program does with arguments and bytes.
-use Rattle.std.specs.Prelude.{◌≡◌, ◌⊎◌, ◌≤◌, ℕ, List, Option, None, Some, Ok}
+use Rattle.std.specs.Prelude.{◌≡◌, ◌⊎◌, ◌≤◌, ℕ, List, Option, None, Some, IsSome, IsTrue}
 use Rattle.report_text.specs.declared.report.Report.{Report}
-use Rattle.doc_text.specs.Doc.{Doc}
-use Rattle.mesh_doc.specs.Reading.{reading}
 use Rattle.commands.specs.declared.command.Command.{Command}
-use Rattle.commands.specs.declared.command.Command.TheVariants.{Step}
-use Rattle.commands.specs.Arguments.{command_named}
-use Rattle.commands.specs.Input.{WritesFor, WritesPartFor}
-use Rattle.commands.specs.Steps.{IsReportOfSteps}
+use Rattle.commands.specs.Arguments.{command_named, load_of}
+use Rattle.commands.specs.Input.{OfDocument, WritesFor, WritesPartFor}
+use Rattle.commands.specs.Texts.{runs_machine, IsReportOf}
 
 -- the arguments are the form of no command
 abbrev pub IsNoForm : List (List ℕ) → Type 0
 IsNoForm words = command_named words ≡ None
 
--- a whole text of the input for the command that the arguments name was appended, that of its report where it has one
+-- the arguments are those of a command that makes a load
+pub record MakesLoad (words : List (List ℕ)) : Type 0 where
+  pub command : Command
+  pub named : command_named words ≡ Some command
+  pub made : IsSome (load_of command)
+
+-- the arguments are those of a command that reads a document
+pub record ReadsDocument (words : List (List ℕ)) : Type 0 where
+  pub command : Command
+  pub named : command_named words ≡ Some command
+  pub read : load_of command ≡ None
+
+-- the statuses that speak of the input
+abbrev pub SpeaksOfInput : ℕ → Type 0
+SpeaksOfInput status = (status ≡ 2) ⊎ (status ≡ 4) ⊎ (status ≡ 7)
+
+-- a whole text of the command that the arguments name was appended, for its document, and by its report where it has one
 abbrev pub WritesText : List (List ℕ) → Option (List ℕ) → Option Report → Option (List ℕ) → Option (List ℕ) → Type 0
 WritesText words input report old new = (command : Command) × (command_named words ≡ Some command) × WritesFor command input report old new
 
@@ -25,21 +38,19 @@ WritesPart words input report old new = (command : Command) × (command_named wo
 abbrev pub HasWritten : ℕ → Type 0
 HasWritten status = (status ≡ 0) ⊎ (status ≡ 3)
 
--- the arguments are those of `step`, whose run came to its end: its text was written, or a write failed
+-- the arguments are those of a command that runs a machine, whose run came to its end: its text was written, or a write failed
 pub record Reports (words : List (List ℕ)) (status : ℕ) : Type 0 where
-  pub pace : ℕ
-  pub budget : ℕ
-  pub named : command_named words ≡ Some (Step pace budget)
+  pub command : Command
+  pub named : command_named words ≡ Some command
+  pub runs : IsTrue (runs_machine command)
   pub ran : HasWritten status ⊎ (status ≡ 5)
 
--- it is the report of a run of the document that the bytes describe, by the pace and the budget that the arguments name
-pub record IsRunOf (words : List (List ℕ)) (bytes : List ℕ) (report : Report) : Type 0 where
-  pub pace : ℕ
-  pub budget : ℕ
-  pub named : command_named words ≡ Some (Step pace budget)
-  pub doc : Doc
-  pub accepted : reading bytes ≡ Ok doc
-  pub reported : IsReportOfSteps pace budget doc report
+-- it is the report of a run of the command's document, the one that the bytes describe or the load that the arguments name,
+-- by the pace and the budget that they name
+pub record IsRunOf (words : List (List ℕ)) (input : Option (List ℕ)) (report : Report) : Type 0 where
+  pub command : Command
+  pub named : command_named words ≡ Some command
+  pub reported : OfDocument (load_of command) input (λ doc. IsReportOf command doc report)
 
 -- the statuses of this program
 abbrev pub IsStatus : ℕ → Type 0

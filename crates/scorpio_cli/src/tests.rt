@@ -47,7 +47,7 @@ fn other_words_are_no_form(rt: HostRuntime) -> Result<(), Fail> {
         assert_eq!(rt; ended.status, 1);
         assert_eq!(rt;
             format!(in alloc; "{ended}")?.as_str(),
-            "usage:\n  scorpio order\n  scorpio show\n  scorpio deliver\n  scorpio step [--pace n] [--budget n]"
+            "usage:\n  scorpio order\n  scorpio show\n  scorpio deliver\n  scorpio step [--pace n] [--budget n]\n  scorpio gen n [--text]"
         );
     }
     Ok(())

@@ -1,8 +1,8 @@
-ghost use Rattle.std.specs.Prelude.{◌≡◌, ◌≢◌, ◌↔◌, map, IfSome, IsSome};
+ghost use Rattle.std.specs.Prelude.{◌≡◌, ◌≢◌, ◌↔◌, map, IfSome, IsSome, IsSomeAnd};
 ghost use Rattle.outside_io.specs.Streams.{Rose};
 ghost use Rattle.report_text.specs.declared.finish.Finish.TheVariants.{Finished, Budget};
 ghost use Rattle.commands.specs.Input.{HasFault, IsTooLong};
-ghost use Rattle.scorpio_cli.specs.Top.{IsNoForm, IsStatus, WritesText, WritesPart, HasWritten, Reports, IsRunOf};
+ghost use Rattle.scorpio_cli.specs.Top.{IsNoForm, IsStatus, MakesLoad, ReadsDocument, SpeaksOfInput, WritesText, WritesPart, HasWritten, Reports, IsRunOf};
 
 use crate::ended::Ended;
 use commands::{Command, Stop};
@@ -12,20 +12,21 @@ use std::alloc::Global;
 /// Does what the arguments say, over what comes from the source, into the sink: all that the program does.
 /// `order` writes the order of the requests that the document posts, `show` the document in its canonical text,
 /// `deliver` the sources of the requests that each tile has delivered once all that the document posts was broadcast, and
-/// `step` the report of a run of its programs.
+/// `step` the report of a run of its programs. `gen` reads nothing: it makes the load of a number, and writes a summary of
+/// its run, or the load itself.
 pub fn scorpio<S: Source, K: Sink>(
     alloc: Global,
     words: &[&str],
     source: &mut S,
     sink: &mut K,
 ) -> Ended
-    // A whole text of the document was written: of a run, that of its report.
+    // A whole text of the command's document was written: of a run, that of its report.
     ensures written { HasWritten result.status
         → WritesText (map (λ word. word.now) words.now)
         (S.left source.old) result.report (K.held sink.old) (K.held sink.new) }
     // A run went on until the chip was finished, or its budget was spent.
     ensures finished { result.status ≡ 0 → IfSome result.report (λ report. report.ended ≡ Finished) }
-    ensures budget { result.status ≡ 3 → IfSome result.report (λ report. report.ended ≡ Budget) }
+    ensures budget { result.status ≡ 3 → IsSomeAnd result.report (λ report. report.ended ≡ Budget) }
 
     // Why it ended otherwise.
     ensures usage { (result.status ≡ 1) ↔ IsNoForm (map (λ word. word.now) words.now) }
@@ -36,6 +37,9 @@ pub fn scorpio<S: Source, K: Sink>(
     ensures write_fault { result.status ≡ 5 → Rose (K.faults sink.old) (K.faults sink.new)
         × WritesPart (map (λ word. word.now) words.now)
         (S.left source.old) result.report (K.held sink.old) (K.held sink.new) }
+    ensures reading { SpeaksOfInput result.status
+        → ReadsDocument (map (λ word. word.now) words.now) }
+    ensures unread { MakesLoad (map (λ word. word.now) words.now) → source.new ≡ source.old }
     ensures too_long { result.status ≡ 7 → IsTooLong (S.left source.old) (S.left source.new) }
     ensures statuses { IsStatus result.status }
     ensures at { result.at ≡ 0 }
@@ -44,15 +48,15 @@ pub fn scorpio<S: Source, K: Sink>(
     ensures silent { result.status ≢ 0 → result.status ≢ 3 → result.status ≢ 5
         → K.held sink.new ≡ K.held sink.old }
 
-    // Exactly `step` reports, where it came to writing. Its report is that of a run of the document, of
-    // which all holds that is promised of every run: any two tiles deliver prefixes of one list, which has
+    // Exactly `step` and `gen` report, where they came to writing. The report is that of a run of the
+    // document, or of the load, of which all holds that is promised of every run: any two tiles deliver prefixes of one list, which has
     // each request once, each tile's in order; the accesses, in the order in which they are printed, are
     // one sequential execution of the programs, ending in the printed memory; until all is finished some
     // event is possible; only a spent budget ends it early.
     ensures reports { IsSome result.report
         ↔ Reports (map (λ word. word.now) words.now) result.status }
-    ensures run { IfSome (S.left source.old) (λ bytes. IfSome result.report
-        (IsRunOf (map (λ word. word.now) words.now) bytes)) }
+    ensures run { IfSome result.report
+        (IsRunOf (map (λ word. word.now) words.now) (S.left source.old)) }
 {
     match Command::of(words) {
         Some(command) => Ended::of(command.run(alloc, source, sink)),

@@ -1,11 +1,10 @@
-use Rattle.std.proofs.Common.{subst, sym}
-use Rattle.std.proofs.Common.{Option}
+use Rattle.std.proofs.Common.{Option, subst, sym, refl}
 use Rattle.outside_io.specs.Streams.{stream}
 use Rattle.doc_text.specs.Doc.{doc_of}
 use Rattle.report_text.specs.declared.report.Report.{Report}
 use Rattle.commands.specs.declared.command.Command.TheVariants.{Step}
 use Rattle.commands.specs.Outcome.{Did}
-use Rattle.commands.proofs.Runs.{steps_were_written}
+use Rattle.commands.proofs.Runs.{report_was_written}
 use Rattle.commands.proofs.step.write_steps.Goals as goal
 
 pub returns-in-Ok : goal.returns-in-Ok
@@ -13,4 +12,4 @@ returns-in-Ok g c =
     let sink = stream g.K.Sink.held g.K.Sink.faults c.args.sink.now c.write_run.new.sink in
     let doc = doc_of c.args.document in
     subst (λ (report : Option Report). Did (Step c.args.pace c.args.budget) doc sink report c.write_run.result.result) (sym c.write_run.ensures.report)
-    (steps_were_written c.args.pace c.args.budget doc sink c.in-Ok.report c.write_run.result.result c.in-Ok.ensures.reported c.write_run.ensures.written c.write_run.ensures.fault)
+    (report_was_written (Step c.args.pace c.args.budget) doc sink c.in-Ok.report c.write_run.result.result c.in-Ok.ensures.reported refl c.write_run.ensures.written c.write_run.ensures.fault)

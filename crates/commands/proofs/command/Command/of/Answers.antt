@@ -4,8 +4,4 @@ use Rattle.commands.proofs.command.Command.of.Goals as goal
 
 pub returns-in_default-2-clause-named : goal.returns-in_default-2-clause-named
 returns-in_default-2-clause-named c =
-    sym (no_form c.args.words.now (λ e. omega arith) (λ e. omega arith) (λ e. omega arith))
-
-pub returns-in_default-4-clause-named : goal.returns-in_default-4-clause-named
-returns-in_default-4-clause-named c =
-    sym (no_form c.args.words.now (λ e. omega arith) (λ e. omega arith) (λ e. omega arith))
+    sym (no_form c.args.words.now (λ e. omega arith) (λ e. omega arith) (λ e. omega arith) (λ e. omega arith))
