@@ -1,6 +1,7 @@
 -- Events one after another, each where it is possible.
 use Rattle.std.proofs.Common.{◌≡◌, ℕ, zero, suc, ◌+◌, ◌-◌, ◌<◌, ◌≤◌, Bool, true, false, refl, sym, ◌∙◌, ap, subst, arith, Option, Some, None, List, [], ◌∷◌, ◌++◌, map}
 use Rattle.std.specs.Prelude.{unwrap_or, ◌||◌, filter}
+use Rattle.std.specs.Bool.{OnTrue, OnFalse}
 use Rattle.std.specs.List.{flat_map}
 use Rattle.std.specs.Prelude.{slice_get, set, is_ok, OnOk, OnErr, IfOk, Result, Ok, Err, option_map}
 use Rattle.std.proofs.lemmas.List.Sums.{fold-append}
@@ -90,6 +91,30 @@ sweeps_one event a b moved sizes closed phase ordered done none kept more = reco
     swept_by : (moved : Bool) → (moved ≡ true → network_step a.chip a.network event ≡ Some b.network) → (moved ≡ false → network_step a.chip a.network event ≡ None) → (moved ≡ false → b ≡ a) → b.network ≡ network_tried a.chip a.network event
     swept_by true done none kept = sym (tried (Some b.network) (done refl))
     swept_by false done none kept = ap (λ (s : NetworkState). s.network) (kept refl) ∙ sym (tried None (none refl))
+
+-- ---- events of which none is possible
+sweeps_still : (event : Event) (a : NetworkState) → network_step a.chip a.network event ≡ None → Sweeps (event ∷ []) a a false
+sweeps_still event a none = sweeps_one event a a false (record { chip_is = refl; room_is = refl }) refl refl refl (λ yes. cc) (λ no. none) (λ no. refl) (λ yes. cc)
+
+still_sides : (a : NetworkState) (r : ℕ) (port : Port) (slot : ℕ) → ((out : Port) → after_copy_hop a.chip a.network r port slot out ≡ None) → (outs : List Port) → Sweeps (map (Hop r port slot) outs) a a false
+unfolding network_step
+still_sides a r port slot none [] = sweeps_none a
+still_sides a r port slot none (out ∷ outs) = sweeps_join (Hop r port slot out ∷ []) (map (Hop r port slot) outs) a a a false false (sweeps_still (Hop r port slot out) a (none out)) (still_sides a r port slot none outs)
+
+still_slots : (a : NetworkState) (r : ℕ) (port : Port) → ((slot : ℕ) (out : Port) → after_copy_hop a.chip a.network r port slot out ≡ None) → (slots : List ℕ) → Sweeps (flat_map (hops_from r port) slots) a a false
+still_slots a r port none [] = sweeps_none a
+still_slots a r port none (slot ∷ slots) =
+    sweeps_join (hops_from r port slot) (flat_map (hops_from r port) slots) a a a false false (still_sides a r port slot (none slot) output_ports) (still_slots a r port none slots)
+
+-- no copy leaves a channel that holds none, nor a port where no channel holds one
+pub still_channel : (a : NetworkState) (r : ℕ) (port : Port) (slot : ℕ) (holds : Bool) → holds ≡ false → OnFalse holds ((out : Port) → after_copy_hop a.chip a.network r port slot out ≡ None) → Sweeps (hops_from r port slot) a a false
+still_channel a r port slot true is none = cc
+still_channel a r port slot false is none = still_sides a r port slot none output_ports
+
+pub still_port : (a : NetworkState) (r : ℕ) (port : Port) (vacant : Bool) → vacant ≡ true → OnTrue vacant ((slot : ℕ) (out : Port) → after_copy_hop a.chip a.network r port slot out ≡ None)
+    → (slots : List ℕ) → Sweeps (flat_map (hops_from r port) slots) a a false
+still_port a r port true is none slots = still_slots a r port none slots
+still_port a r port false is none slots = cc
 
 -- ---- what a call tells
 

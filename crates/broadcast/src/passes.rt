@@ -21,6 +21,9 @@ fn hop(net: &mut OrderedNet, router: u8, port: Port, slot: u8, side: Port) -> bo
 fn hop_by_sides(net: &mut OrderedNet, router: u8, port: Port, slot: u8) -> bool
     ensures { Sweeps (hops_from router port slot) net.old net.new result }
 {
+    if !net.holds_copy(router, port, slot) {
+        return false;
+    }
     let east = hop(net, router, port, slot, Port::E);
     let west = hop(net, router, port, slot, Port::W);
     let north = hop(net, router, port, slot, Port::N);
@@ -32,6 +35,9 @@ fn hop_by_sides(net: &mut OrderedNet, router: u8, port: Port, slot: u8) -> bool
 fn hop_from_port(net: &mut OrderedNet, router: u8, port: Port, slots: u8) -> bool
     ensures { Sweeps (flat_map (hops_from router port) (upwards 0 slots)) net.old net.new result }
 {
+    if net.is_vacant(router, port) {
+        return false;
+    }
     let mut moved = false;
     for slot in 0..slots {
         moved |= hop_by_sides(net, router, port, slot);

@@ -1,10 +1,6 @@
-//! Tests of the public calls that read documents, run commands and write texts.
+//! Tests of the commands, and of what they write.
 #![tactic(auto)]
 
-#[cfg(test)]
-mod canonical_texts;
-#[cfg(test)]
-mod descriptions;
 #[cfg(test)]
 mod fixtures;
 #[cfg(test)]
@@ -15,5 +11,3 @@ mod outputs;
 mod refusals;
 #[cfg(test)]
 mod steps;
-#[cfg(test)]
-mod streams;

@@ -1,7 +1,7 @@
 use Rattle.std.proofs.Common.{[], ◌∷◌, refl, lit<, lit≤}
 use Rattle.std.specs.List.{IsDistinct}
 use Rattle.doc_text.specs.Limits.{ArePosts}
-use Rattle.program_tests.proofs.canonical_texts.four_tiles.Goals as goal
+use Rattle.document_tests.proofs.canonical_texts.four_tiles.Goals as goal
 
 two_windows : ArePosts 4 ((0 ∷ 3 ∷ []) ∷ (1 ∷ []) ∷ [])
 unfolding IsDistinct

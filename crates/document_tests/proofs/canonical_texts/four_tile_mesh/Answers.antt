@@ -1,7 +1,7 @@
 use Rattle.std.proofs.Common.{[], ◌∷◌, refl, lit<}
 use Rattle.std.specs.List.{IsDistinct}
 use Rattle.mesh_gen.specs.Limits.{AreTiles}
-use Rattle.program_tests.proofs.canonical_texts.four_tile_mesh.Goals as goal
+use Rattle.document_tests.proofs.canonical_texts.four_tile_mesh.Goals as goal
 
 two_tiles : AreTiles 4 (3 ∷ 0 ∷ [])
 unfolding IsDistinct
