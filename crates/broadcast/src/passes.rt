@@ -21,7 +21,7 @@ fn hop(net: &mut OrderedNet, router: u8, port: Port, slot: u8, side: Port) -> bo
 fn hop_by_sides(net: &mut OrderedNet, router: u8, port: Port, slot: u8) -> bool
     ensures { Sweeps (hops_from router port slot) net.old net.new result }
 {
-    if !net.holds_copy(router, port, slot) {
+    if !net.owes_side(router, port, slot) {
         return false;
     }
     let east = hop(net, router, port, slot, Port::E);

@@ -7,6 +7,7 @@ ghost use Rattle.vc_bank.specs.Places.{at, vacant};
 ghost use Rattle.chip_model.specs.Chip.{chip_of_mesh, tile_count};
 ghost use Rattle.chip_model.specs.OrderedNetwork.{Interface, next_request, after_inject, after_request_post, after_network_tick, after_vector_take, expected_at, expected_at_next_hop, after_copy_hop, after_delivery};
 ghost use Rattle.chip_model.specs.NetworkFits.{NetworkFits};
+ghost use Rattle.router_xy.specs.RequestNetwork.{owes_side};
 ghost use Rattle.net_iface.specs.OrderedNet.{opening_state, SameSizes, delivered_counts, delivered_by, FewAreLeft};
 ghost use Rattle.net_iface.specs.OneOrder.{IsOneOrder};
 ghost use Rattle.net_iface.specs.Moves.{moves_done, most_moves};
@@ -314,10 +315,7 @@ impl OrderedNet {
         let Some(name) = self.expected(t) else {
             return Err(NotEnabled);
         };
-        if !self.routers.holds_local(t, name) {
-            return Err(NotEnabled);
-        }
-        let q = self.routers.serve_local(t, name);
+        let q = self.routers.serve_local(t, name)?;
         pass_over(&mut self.trackers, t);
         self.delivered[usize::from(t)] += 1;
         Ok(q)
@@ -335,13 +333,13 @@ impl OrderedNet {
         self.routers.is_vacant(r, port)
     }
 
-    /// Whether a channel holds a copy. Where it holds none, none can leave.
-    pub fn holds_copy(&self, r: u8, port: Port, slot: u8) -> bool
-        ensures holds { result ≡ is_some (at self.now.network.copies r (port_number port) slot) }
+    /// Whether a channel holds a copy that has to leave to another router. Where it holds none, none can leave.
+    pub fn owes_side(&self, r: u8, port: Port, slot: u8) -> bool
+        ensures owed { result ≡ owes_side (at self.now.network.copies r (port_number port) slot) }
         ensures none { OnFalse result ((out : Port)
             → after_copy_hop self.now.chip self.now.network r port slot out ≡ None) }
     {
-        self.routers.holds(r, port, slot)
+        self.routers.owes_side(r, port, slot)
     }
 }
 

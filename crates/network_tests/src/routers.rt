@@ -40,5 +40,7 @@ fn the_reserved_slot_takes_in_the_expected_request_alone(rt: HostRuntime) -> Res
     assert_eq!(rt; routers.holds_local(2, (1, 0)), true);
     assert_eq!(rt; routers.hop(2, Port::W, 1, Port::E, None), Ok(()));
     assert_eq!(rt; routers.holds_local(3, (1, 0)), true);
+    assert_eq!(rt; routers.serve_local(3, (1, 0)), Ok(first_of(1)));
+    assert_eq!(rt; routers.serve_local(3, (1, 0)), Err(NotEnabled));
     Ok(())
 }

@@ -14,7 +14,7 @@ use crate::banks::next_channel;
 use mesh_gen::{Mesh, Msg, NoChannel, NoMemory, NotEnabled, Port, route_laws};
 use std::alloc::Global;
 use std::marker::Model;
-use vc_bank::{Bank, empty_banks, free_slot, holds_packet, is_vacant, leave, packet_at, put_into};
+use vc_bank::{Bank, empty_banks, free_slot, is_vacant, leave, packet_at, put_into};
 
 /// The messages of the reply network. Contracts see the grid of its routers and the messages in their channels.
 #[derive(Drop)]
@@ -143,13 +143,6 @@ impl Replies {
             → at self.now.messages r (port_number port) slot ≡ None) }
     {
         is_vacant(&self.banks, r, port)
-    }
-
-    /// Whether a channel holds a message.
-    pub fn holds(&self, r: u8, port: Port, slot: u8) -> bool
-        ensures { result ≡ is_some (at self.now.messages r (port_number port) slot) }
-    {
-        holds_packet(&self.banks, r, port, slot)
     }
 
     /// Whether no message stands in any channel.

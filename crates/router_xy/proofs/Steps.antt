@@ -1,6 +1,6 @@
 -- What the steps of the request routers do, from what a call finds.
 use Rattle.std.proofs.Common.{◌≡◌, ◌≢◌, ℕ, Bool, true, false, refl, sym, ◌∙◌, ap, subst, arith, Option, Some, None}
-use Rattle.std.specs.Prelude.{is_some, ◌&&◌, IfSome, IfNone}
+use Rattle.std.specs.Prelude.{is_some, ◌&&◌, ◌||◌, IfSome, IfNone}
 use Rattle.std.specs.Bool.{OnTrue, OnFalse}
 use Rattle.std.specs.Option.{option_or}
 use Rattle.mesh_gen.specs.declared.request.Request.{Request}
@@ -17,7 +17,7 @@ use Rattle.chip_model.specs.declared.net_copy.NetCopy.{NetCopy}
 use Rattle.chip_model.specs.Partial.{◌>>=◌, when}
 use Rattle.chip_model.specs.Copies.{Name, channels_of, arriving, left_by, owes, after_entry, entry_slot, expects, after_hop, local_place, after_serve}
 use Rattle.router_xy.specs.declared.way.Way.{Way}
-use Rattle.router_xy.specs.RequestNetwork.{IsOpenHop, is_owed}
+use Rattle.router_xy.specs.RequestNetwork.{IsOpenHop, is_owed, owes_side}
 
 -- ---- a channel that takes a copy in is free
 pub lowest_is_free : (channels : Channels NetCopy) (p slot : ℕ) → lowest_free channels p ≡ Some slot → IsFree channels p slot
@@ -97,15 +97,6 @@ pub no_copies_in : (g : Grid) (net : Network NetCopy) (r : ℕ) (port : Port) (a
 no_copies_in g net r port true none = λ slot out expected. no_copy g net r port slot out expected (none slot)
 no_copies_in g net r port false none = tt
 
-pub not_held : (g : Grid) (net : Network NetCopy) (r : ℕ) (port : Port) (slot : ℕ) (answer : Bool) → answer ≡ is_some (at net r (port_number port) slot)
-    → OnFalse answer ((out : Port) (expected : Option Name) → after_hop g net r port slot out expected ≡ None)
-not_held g net r port slot true is = tt
-not_held g net r port slot false is = λ out expected. no_copy g net r port slot out expected (none_of (at net r (port_number port) slot) is)
-  where
-    none_of : (found : Option NetCopy) → false ≡ is_some found → found ≡ None
-    none_of None is = refl
-    none_of (Some copy) is = cc
-
 pub not_owing : (g : Grid) (net : Network NetCopy) (r : ℕ) (port : Port) (slot : ℕ) (out : Port) (answer : Bool) → answer ≡ is_owed out (at net r (port_number port) slot)
     → OnFalse answer ((expected : Option Name) → after_hop g net r port slot out expected ≡ None)
 not_owing g net r port slot out true is = tt
@@ -119,6 +110,37 @@ pub no_router : (g : Grid) (net : Network NetCopy) (r : ℕ) (port : Port) (slot
     → after_hop g net r port slot out expected ≡ None
 unfolding after_hop
 no_router g net r port slot out expected copy stands owed next = rw (stands, owed, next)
+
+-- a copy that owes no other router goes nowhere
+four_false : (a b c d : Bool) → false ≡ (a || (b || (c || d))) → (a ≡ false) × (b ≡ false) × (c ≡ false) × (d ≡ false)
+four_false false false false false is = (refl, refl, refl, refl)
+four_false false false false true is = cc
+four_false false false true d is = cc
+four_false false true c d is = cc
+four_false true b c d is = cc
+
+not_by_side : (g : Grid) (net : Network NetCopy) (r : ℕ) (port : Port) (slot : ℕ) (expected : Option Name) (copy : NetCopy) → at net r (port_number port) slot ≡ Some copy → false ≡ owes_side (Some copy) → (out : Port) → after_hop g net r port slot out expected ≡ None
+not_by_side g net r port slot expected copy stands is out = by out (four_false (owes copy E) (owes copy W) (owes copy N) (owes copy S) is)
+  where
+    own : (holds : Bool) → owes copy L ≡ holds → after_hop g net r port slot L expected ≡ None
+    own true holds = no_router g net r port slot L expected copy stands holds refl
+    own false holds = not_owed g net r port slot L expected copy stands holds
+
+    by : (out : Port) → (owes copy E ≡ false) × (owes copy W ≡ false) × (owes copy N ≡ false) × (owes copy S ≡ false) → after_hop g net r port slot out expected ≡ None
+    by L none = own (owes copy L) refl
+    by E none = not_owed g net r port slot E expected copy stands none.0
+    by W none = not_owed g net r port slot W expected copy stands none.1
+    by N none = not_owed g net r port slot N expected copy stands none.2
+    by S none = not_owed g net r port slot S expected copy stands none.3
+
+pub no_side : (g : Grid) (net : Network NetCopy) (r : ℕ) (port : Port) (slot : ℕ) (answer : Bool) → answer ≡ owes_side (at net r (port_number port) slot)
+    → OnFalse answer ((out : Port) (expected : Option Name) → after_hop g net r port slot out expected ≡ None)
+no_side g net r port slot true is = tt
+no_side g net r port slot false is = λ out expected. by (at net r (port_number port) slot) refl is out expected
+  where
+    by : (found : Option NetCopy) → at net r (port_number port) slot ≡ found → false ≡ owes_side found → (out : Port) (expected : Option Name) → after_hop g net r port slot out expected ≡ None
+    by None stands is out expected = no_copy g net r port slot out expected stands
+    by (Some copy) stands is out expected = not_by_side g net r port slot expected copy stands is out
 
 pub no_entry : (g : Grid) (net : Network NetCopy) (r : ℕ) (port : Port) (slot : ℕ) (out : Port) (expected : Option Name) (copy : NetCopy) (to : ℕ) → at net r (port_number port) slot ≡ Some copy → owes copy out ≡ true → neighbour g r out ≡ Some to
     → entry_slot (channels_of net to) (opposite out) (expects expected copy.request) ≡ None → after_hop g net r port slot out expected ≡ None

@@ -1,7 +1,7 @@
 -- The request routers as plain data, and what stands in their channels.
-use Rattle.std.specs.Prelude.{◌≡◌, ℕ, Bool, true, false, Option, Some, None, option_map}
+use Rattle.std.specs.Prelude.{◌≡◌, ℕ, Bool, true, false, ◌||◌, Option, Some, None, option_map}
 use Rattle.mesh_gen.specs.declared.port.Port.{Port}
-use Rattle.mesh_gen.specs.declared.port.Port.TheVariants.{L}
+use Rattle.mesh_gen.specs.declared.port.Port.TheVariants.{L, E, W, N, S}
 use Rattle.mesh_gen.specs.Grid.{Grid, neighbour}
 use Rattle.mesh_gen.specs.Limits.{IsFrom}
 use Rattle.mesh_gen.specs.Ports.{port_number, opposite, count_if}
@@ -27,6 +27,11 @@ IsAbsent net name = (router port slot : ℕ) (copy : NetCopy) → at net router 
 abbrev pub is_owed : Port → Option NetCopy → Bool
 is_owed out None = false
 is_owed out (Some copy) = owes copy out
+
+-- whether a channel holds a copy that owes a port to another router
+abbrev pub owes_side : Option NetCopy → Bool
+owes_side None = false
+owes_side (Some copy) = owes copy E || (owes copy W || (owes copy N || owes copy S))
 
 -- a copy owes an output port, there is a router there, and a channel of it takes the copy in
 pub record IsOpenHop (g : Grid) (net : Network NetCopy) (r : ℕ) (port : Port) (slot : ℕ) (out : Port) (expected : Option Name) (way : Way) : Type 0 where

@@ -1,6 +1,7 @@
 //! What one copy owes.
-ghost use Rattle.std.specs.Prelude.{◌≡◌};
+ghost use Rattle.std.specs.Prelude.{◌≡◌, Some};
 ghost use Rattle.chip_model.specs.Copies.{left_by, owes_tile, expects};
+ghost use Rattle.router_xy.specs.RequestNetwork.{owes_side};
 
 use bitflags::Flags;
 use chip_model::NetCopy;
@@ -18,6 +19,14 @@ pub(crate) fn left_by(out: Port, copy: NetCopy) -> Option<NetCopy>
         request: copy.request,
         owed,
     })
+}
+
+// Whether a copy owes a port to another router.
+pub(crate) fn owes_side(copy: NetCopy) -> bool
+    ensures { result ≡ owes_side (Some copy) }
+{
+    copy.owed.has(Port::E)
+        || (copy.owed.has(Port::W) || (copy.owed.has(Port::N) || copy.owed.has(Port::S)))
 }
 
 // Whether this is the request that is expected.

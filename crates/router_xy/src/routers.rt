@@ -1,4 +1,4 @@
-ghost use Rattle.std.specs.Prelude.{◌≡◌, ◌<◌, ◌≤◌, ◌+◌, ◌*◌, ℕ, Option, Some, None, true, IsSome, IfOk, OnOk, OnErr, is_some};
+ghost use Rattle.std.specs.Prelude.{◌≡◌, ◌<◌, ◌≤◌, ◌+◌, ◌*◌, ℕ, Option, Some, None, true, false, IfOk, OnOk, OnErr, is_some};
 ghost use Rattle.std.specs.Bool.{OnTrue, OnFalse};
 ghost use Rattle.mesh_gen.specs.declared.port.Port.{Port};
 ghost use Rattle.mesh_gen.specs.Grid.{tiles};
@@ -8,17 +8,17 @@ ghost use Rattle.vc_bank.specs.Places.{at, vacant};
 ghost use Rattle.chip_model.specs.Copies.{Name, no_copies, name_of, after_entry, after_hop, local_place, after_serve};
 ghost use Rattle.chip_model.specs.CopiesOwed.{CopiesFit, OwesMore, OwesSame, OwesLess, NoneComes, ComesAlone, ReservesExpected, ReservesNothing};
 ghost use Rattle.chip_model.specs.NetworkShape.{HasChannels};
-ghost use Rattle.router_xy.specs.RequestNetwork.{IsAbsent, is_owed, arrived};
+ghost use Rattle.router_xy.specs.RequestNetwork.{IsAbsent, is_owed, owes_side, arrived};
 
 use crate::banks::entry_slot;
-use crate::copies::{expects, left_by};
+use crate::copies::{expects, left_by, owes_side};
 use crate::local::place_owing;
 use crate::way::Way;
 use chip_model::NetCopy;
 use mesh_gen::{Mesh, NoChannel, NoMemory, NotEnabled, Port, Request};
 use std::alloc::Global;
 use std::marker::Model;
-use vc_bank::{Bank, empty_banks, free_slot, holds_packet, is_vacant, leave, packet_at, put_into};
+use vc_bank::{Bank, empty_banks, free_slot, is_vacant, leave, packet_at, put_into};
 
 /// The copies of requests in the channels of all routers. Contracts see the grid of the routers, how many normal channels
 /// a port has, and the copies.
@@ -136,7 +136,7 @@ impl Routers {
         Ok(())
     }
 
-    /// Whether no channel of a port of the router `r` holds a copy.
+    /// Whether no channel of a port of the router `r` holds a copy. Then none can hop.
     pub fn is_vacant(&self, r: u8, port: Port) -> bool
         ensures vacant { result ≡ vacant self.now.copies r (port_number port) }
         ensures none { OnTrue result ((slot : ℕ) (out : Port) (expected : Option Name)
@@ -145,13 +145,16 @@ impl Routers {
         is_vacant(&self.banks, r, port)
     }
 
-    /// Whether a channel holds a copy.
-    pub fn holds(&self, r: u8, port: Port, slot: u8) -> bool
-        ensures holds { result ≡ is_some (at self.now.copies r (port_number port) slot) }
+    /// Whether a channel holds a copy that has to leave to another router. Where it holds none, none can hop.
+    pub fn owes_side(&self, r: u8, port: Port, slot: u8) -> bool
+        ensures owed { result ≡ owes_side (at self.now.copies r (port_number port) slot) }
         ensures none { OnFalse result ((out : Port) (expected : Option Name)
             → after_hop self.now.grid self.now.copies r port slot out expected ≡ None) }
     {
-        holds_packet(&self.banks, r, port, slot)
+        match packet_at(&self.banks, r, port, slot) {
+            Some(copy) => owes_side(copy),
+            None => false,
+        }
     }
 
     /// Whether a channel holds a copy that has to leave by the port `out`.
@@ -174,25 +177,29 @@ impl Routers {
     }
 
     /// The request that a copy owes the router's own tile, which is owed no more: the copy leaves by the local port.
-    pub fn serve_local(&mut self, r: u8, id: (u8, u32)) -> Request
-        requires { IsSome (local_place self.old.copies r id) }
-        ensures served { after_serve self.old.copies r id ≡ Some (result, self.new.copies) }
-        ensures name { name_of result ≡ id }
-        ensures owed { OwesLess self.old.grid r result self.old.copies self.new.copies }
+    /// Refused exactly where no channel of the router holds a copy of the request that owes the tile.
+    pub fn serve_local(&mut self, r: u8, id: (u8, u32)) -> Result<Request, NotEnabled>
+        ensures ok { IfOk result (λ q. after_serve self.old.copies r id
+            ≡ Some (q, self.new.copies)) }
+        ensures err { OnErr result (is_some (local_place self.old.copies r id) ≡ false) }
+        ensures kept { OnErr result (self.new ≡ self.old) }
+        ensures name { IfOk result (λ q. name_of q ≡ id) }
+        ensures owed { IfOk result (λ q.
+            OwesLess self.old.grid r q self.old.copies self.new.copies) }
         ensures requests { NoneComes self.old.copies self.new.copies }
         ensures reserved { ReservesNothing self.old.vcs self.old.copies self.new.copies }
-        ensures arrived { arrived self.new.copies + 1 ≡ arrived self.old.copies }
+        ensures arrived { OnOk result (arrived self.new.copies + 1 ≡ arrived self.old.copies) }
         ensures grid { self.new.grid ≡ self.old.grid }
         ensures vcs { self.new.vcs ≡ self.old.vcs }
     {
         let Some((port, slot)) = self.local_place(r, id) else {
-            unreachable!()
+            return Err(NotEnabled);
         };
         let Some(copy) = packet_at(&self.banks, r, port, slot) else {
             unreachable!()
         };
         leave(&mut self.banks, r, port, slot, left_by(Port::L, copy));
-        copy.request
+        Ok(copy.request)
     }
 
     /// Whether [`Routers::inject`] would take the request in.

@@ -1,4 +1,4 @@
-ghost use Rattle.std.specs.Prelude.{◌≡◌, ◌<◌, ℕ, Some, None, IsSome, IfSome, IfNone, is_none, is_some, length};
+ghost use Rattle.std.specs.Prelude.{◌≡◌, ◌<◌, ℕ, Some, None, IsSome, IfSome, IfNone, is_none, length};
 ghost use Rattle.std.specs.List.{list_all};
 ghost use Rattle.mesh_gen.specs.Limits.{IsFrom};
 ghost use Rattle.mesh_gen.specs.Ports.{port_number};
@@ -77,16 +77,6 @@ impl<P: Copy> Bank<P> {
         ensures { result ≡ list_all is_none (slots_at self.now (port_number port)) }
     {
         self.port(port).is_vacant()
-    }
-
-    /// Whether a slot holds a packet.
-    pub fn holds(&self, port: Port, slot: u8) -> bool
-        ensures { result ≡ is_some (packet_at self.now (port_number port) slot) }
-    {
-        match self.slots(port).get(usize::from(slot)) {
-            Some(packet) => packet.is_some(),
-            None => false,
-        }
     }
 
     // How many normal slots a port has.

@@ -1,5 +1,5 @@
 //! The channels of all routers: for each router, by its number, a bank.
-ghost use Rattle.std.specs.Prelude.{◌≡◌, ℕ, Some, None, IfOk, IsSome, is_some, replicate, slice_index_or, []};
+ghost use Rattle.std.specs.Prelude.{◌≡◌, ℕ, Some, None, IfOk, IsSome, replicate, slice_index_or, []};
 ghost use Rattle.std.specs.Bool.{OnTrue};
 ghost use Rattle.mesh_gen.specs.Limits.{IsFrom};
 ghost use Rattle.mesh_gen.specs.Ports.{port_number};
@@ -35,16 +35,6 @@ pub fn packet_at<P: Copy>(banks: &[Bank<P>], r: u8, port: Port, slot: u8) -> Opt
     match banks.get(usize::from(r)) {
         Some(bank) => bank.at(port, slot),
         None => None,
-    }
-}
-
-/// Whether a slot holds a packet.
-pub fn holds_packet<P: Copy>(banks: &[Bank<P>], r: u8, port: Port, slot: u8) -> bool
-    ensures { result ≡ is_some (at banks.now r (port_number port) slot) }
-{
-    match banks.get(usize::from(r)) {
-        Some(bank) => bank.holds(port, slot),
-        None => false,
     }
 }
 

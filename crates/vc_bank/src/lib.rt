@@ -6,4 +6,4 @@ mod banks;
 mod slots;
 
 pub use bank::Bank;
-pub use banks::{empty_banks, free_slot, holds_packet, is_vacant, leave, packet_at, put_into};
+pub use banks::{empty_banks, free_slot, is_vacant, leave, packet_at, put_into};

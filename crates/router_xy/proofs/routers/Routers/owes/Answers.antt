@@ -1,8 +1,5 @@
-use Rattle.std.proofs.Common.{◌≡◌, Bool, Option, Some, None, ◌∙◌, sym, ap, refl}
+use Rattle.std.proofs.Common.{◌∙◌, sym, ap}
 use Rattle.mesh_gen.specs.Mesh.{grid}
-use Rattle.mesh_gen.specs.Ports.{port_number}
-use Rattle.chip_model.specs.declared.net_copy.NetCopy.{NetCopy}
-use Rattle.vc_bank.specs.Places.{at}
 use Rattle.router_xy.specs.RequestNetwork.{is_owed}
 use Rattle.router_xy.proofs.Steps.{seen_at, not_owing}
 use Rattle.router_xy.proofs.routers.Routers.owes.Goals as goal

@@ -10,8 +10,8 @@ use Rattle.router_xy.proofs.Steps.{seen_at, served_at}
 use Rattle.router_xy.proofs.CopiesKept.{request_served}
 use Rattle.router_xy.proofs.routers.Routers.serve_local.Goals as goal
 
-pub unreachable-requires-in_default-packet_at : goal.unreachable-requires-in_default-packet_at
-unreachable-requires-in_default-packet_at c =
+pub unreachable-requires : goal.unreachable-requires
+unreachable-requires c =
     let net = c.self.inside.banks.items in
     let is : numbered c.local_place.result ≡ local_place net c.args.r c.args.id = rw (← c.self.view_is) at c.local_place.ensures in
     let there = local_stands net c.args.r c.args.id _ _ (seen_place net c.args.r c.args.id c.local_place.result c.in-Some.port c.in-Some.slot is c.in-Some.is) in
@@ -35,8 +35,8 @@ serves c = request_served (grid c.self.inside.mesh) c.self.inside.vcs c.self.ins
 pub invariant_of-self : goal.invariant_of-self
 invariant_of-self c = record { some = c.self.invariant.some; vcs_limit = c.self.invariant.vcs_limit; copies = (serves c).holds }
 
-pub returns-clause-served : goal.returns-clause-served
-returns-clause-served c = rw (← c.self.view_is) (steps c)
+pub returns-clause-ok : goal.returns-clause-ok
+returns-clause-ok c = rw (← c.self.view_is) (steps c)
 
 pub returns-clause-name : goal.returns-clause-name
 returns-clause-name c = (serves c).serves.named
