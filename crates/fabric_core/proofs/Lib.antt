@@ -5,3 +5,4 @@ pub mod Entries
 pub mod Kept
 pub mod Steps
 pub mod Idle
+pub mod VacantRouters

@@ -1,3 +1,4 @@
 pub mod Fabric
 pub mod Parts
 pub mod Lists
+pub mod Vacancy

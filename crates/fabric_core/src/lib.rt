@@ -9,6 +9,7 @@ mod log;
 mod made;
 mod turned;
 mod twins;
+mod vacancy;
 
 pub use fabric::Fabric;
 pub use lists::FabricLists;
