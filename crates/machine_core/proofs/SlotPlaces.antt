@@ -65,6 +65,14 @@ hops_at : (r : ℕ) (port : Port) (slot d : ℕ) (out : Port) → slice_get outp
     → slice_get (hops_from r port slot) d ≡ Some (Hop r port slot out)
 hops_at r port slot d out at = map_at (Hop r port slot) output_ports d out at
 
+-- there are four sides
+pub side_below : (d : ℕ) (out : Port) → slice_get output_ports d ≡ Some out → d < 4
+side_below zero out there = omega arith
+side_below (suc zero) out there = omega arith
+side_below (suc (suc zero)) out there = omega arith
+side_below (suc (suc (suc zero))) out there = omega arith
+side_below (suc (suc (suc (suc d)))) out there = cc
+
 own_hops : Chip → ℕ → List Event
 own_hops chip r = flat_map (hops_from r L) (upwards 0 chip.vcs)
 
@@ -86,7 +94,7 @@ length_side : (chip : Chip) (r : ℕ) → length (side_hops chip r) ≡ 4 * ((ch
 unfolding side_hops
 length_side chip r = length_flat (port_hops chip r) ((chip.vcs + 1) * 4) (length_port chip r) output_ports
 
-length_hops : (chip : Chip) (r : ℕ) → length (router_hops chip r) ≡ 16 + 20 * chip.vcs
+pub length_hops : (chip : Chip) (r : ℕ) → length (router_hops chip r) ≡ 16 + 20 * chip.vcs
 unfolding own_hops side_hops port_hops
 length_hops chip r = length-append (own_hops chip r) (side_hops chip r) ∙ omega (arith, length_own chip r, length_side chip r)
 
@@ -118,7 +126,7 @@ length_replies : (chip : Chip) (event : Port → ℕ → Event) (port : Port) �
 unfolding replies_of
 length_replies chip event port = length-map (upwards 0 chip.data_vcs) (event port) ∙ length_upwards 0 chip.data_vcs
 
-length_reply : (chip : Chip) (event : Port → ℕ → Event) → length (reply_events chip event) ≡ 5 * chip.data_vcs
+pub length_reply : (chip : Chip) (event : Port → ℕ → Event) → length (reply_events chip event) ≡ 5 * chip.data_vcs
 unfolding replies_of
 length_reply chip event = length_flat (replies_of chip event) chip.data_vcs (length_replies chip event) ports
 
@@ -132,7 +140,7 @@ reply_at chip event p slot j port at below is =
 
 -- ---- the slots of a tile
 
-length_tile : (chip : Chip) (t : ℕ) → length (tile_slots chip t) ≡ slots_per_tile chip
+pub length_tile : (chip : Chip) (t : ℕ) → length (tile_slots chip t) ≡ slots_per_tile chip
 length_tile chip t =
     length-append (own_events t ++ router_hops chip t ++ reply_events chip (DataHop t)) (reply_events chip (DataEject t))
     ∙ ap (λ n. n + length (reply_events chip (DataEject t))) (length-append (own_events t ++ router_hops chip t) (reply_events chip (DataHop t))

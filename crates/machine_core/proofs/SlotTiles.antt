@@ -14,15 +14,15 @@ use Rattle.chip_model.specs.Schedules.{output_ports, ports, hops_from, router_ho
 use Rattle.machine_core.specs.Stations.{IsAtStation, tile_of}
 use Rattle.machine_core.specs.Slots.{own_events}
 
-all_append : {X : Type 0} (P : X → Type 0) (xs ys : List X) → AllByRecursion P xs → AllByRecursion P ys → AllByRecursion P (xs ++ ys)
+pub all_append : {X : Type 0} (P : X → Type 0) (xs ys : List X) → AllByRecursion P xs → AllByRecursion P ys → AllByRecursion P (xs ++ ys)
 all_append P [] ys all rest = rest
 all_append P (x ∷ xs) ys all rest = (all.0, all_append P xs ys all.1 rest)
 
-all_map : {X Y : Type 0} (P : Y → Type 0) (f : X → Y) → ((x : X) → P (f x)) → (xs : List X) → AllByRecursion P (map f xs)
+pub all_map : {X Y : Type 0} (P : Y → Type 0) (f : X → Y) → ((x : X) → P (f x)) → (xs : List X) → AllByRecursion P (map f xs)
 all_map P f each [] = tt
 all_map P f each (x ∷ xs) = (each x, all_map P f each xs)
 
-all_flat : {X Y : Type 0} (P : Y → Type 0) (f : X → List Y) → ((x : X) → AllByRecursion P (f x)) → (xs : List X) → AllByRecursion P (flat_map f xs)
+pub all_flat : {X Y : Type 0} (P : Y → Type 0) (f : X → List Y) → ((x : X) → AllByRecursion P (f x)) → (xs : List X) → AllByRecursion P (flat_map f xs)
 all_flat P f each [] = tt
 all_flat P f each (x ∷ xs) = subst (AllByRecursion P) (sym (flat_map-cons f x xs)) (all_append P (f x) (flat_map f xs) (each x) (all_flat P f each xs))
 

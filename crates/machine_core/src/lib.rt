@@ -6,6 +6,7 @@ mod acting;
 mod counting;
 mod events;
 mod final_words;
+mod idle;
 mod machine;
 mod parts;
 mod possible;

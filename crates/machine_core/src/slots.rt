@@ -1,6 +1,7 @@
 ghost use Rattle.std.specs.Prelude.{◌≡◌, ◌+◌, ◌*◌, ◌<◌, ℕ, Some, slice_get};
 ghost use Rattle.mesh_gen.specs.declared.port.Port.{Port};
 ghost use Rattle.report_text.specs.declared.event.Event.{Event};
+ghost use Rattle.report_text.specs.declared.event.Event.TheVariants.{Hop};
 ghost use Rattle.chip_model.specs.Chip.{chip_of_mesh};
 ghost use Rattle.machine_core.specs.Slots.{own_events};
 ghost use Rattle.chip_model.specs.Schedules.{output_ports, ports, slots, slot_count, tile_slots, slots_per_tile, router_hops, reply_events};
@@ -69,29 +70,34 @@ fn own_event(t: u8, j: u32) -> Event
     }
 }
 
-// The hop of a slot: the channels of the router's own port come first, then those of each side with the reserved one.
+// The hop of a slot: each channel has one by each side.
 fn hop_event(mesh: &Mesh, r: u8, j: u32) -> Event
     requires { j < 16 + 20 * mesh.now.vcs }
     ensures { slice_get (router_hops (chip_of_mesh mesh.now) r) j ≡ Some result }
 {
-    let vcs = u32::from(mesh.vcs);
-    let channel = j / 4;
-    let out = side(j % 4);
-    if channel < vcs {
-        Event::Hop {
-            r,
-            port: Port::L,
-            slot: channel as u8,
-            out,
-        }
-    } else {
-        Event::Hop {
-            r,
-            port: side((channel - vcs) / (vcs + 1)),
-            slot: ((channel - vcs) % (vcs + 1)) as u8,
-            out,
-        }
+    let (port, slot) = request_channel(mesh, j / 4);
+    Event::Hop {
+        r,
+        port,
+        slot,
+        out: side(j % 4),
     }
+}
+
+// The request channel of a number: those of the router's own port come first, then those of each side with the reserved
+// one.
+pub(crate) fn request_channel(mesh: &Mesh, channel: u32) -> (Port, u8)
+    requires { channel < 4 + 5 * mesh.now.vcs }
+    ensures { (r d : ℕ) (out : Port) → slice_get output_ports d ≡ Some out
+        → slice_get (router_hops (chip_of_mesh mesh.now) r) (channel * 4 + d)
+        ≡ Some (Hop r result.0 result.1 out) }
+{
+    let vcs = u32::from(mesh.vcs);
+    if channel < vcs {
+        return (Port::L, channel as u8);
+    }
+    let rest = channel - vcs;
+    (side(rest / (vcs + 1)), (rest % (vcs + 1)) as u8)
 }
 
 // The reply channel of a number.

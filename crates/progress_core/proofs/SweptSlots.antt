@@ -4,6 +4,7 @@ use Rattle.std.specs.Prelude.{◌==◌, ◌||◌, slice_get, is_some, unwrap_or,
 use Rattle.std.proofs.lemmas.Bool.{eq-eqb, ne_eqb, true≢false}
 use Rattle.std.proofs.lemmas.List.{take_all}
 use Rattle.std.proofs.lemmas.Option.{slice_get_within}
+use Rattle.std.proofs.Math.Seq.{take-add}
 use Rattle.report_text.specs.declared.event.Event.{Event}
 use Rattle.mesh_gen.specs.Partial.{◌>>=◌}
 use Rattle.chip_model.specs.Chip.{Chip}
@@ -29,6 +30,45 @@ pub next_between : (k last : ℕ) (events : List Event) (event : Event) → k < 
 next_between k last events event below there =
     let more : last - k ≡ suc (last - (k + 1)) = omega (arith, below) in
     ap (λ (n : ℕ). take n (drop k events)) more ∙ ap (take (suc (last - (k + 1)))) (drop_next k events event there)
+
+-- the slots up to a later one, in two parts
+drop_more : (n m : ℕ) (events : List Event) → drop m (drop n events) ≡ drop (n + m) events
+drop_more zero m events = refl
+drop_more (suc n) m [] = drop_nothing m
+  where
+    drop_nothing : (m : ℕ) → drop m (drop (suc n) []) ≡ drop (suc n + m) []
+    drop_nothing zero = refl
+    drop_nothing (suc m) = refl
+drop_more (suc n) m (first ∷ events) = drop_more n m events
+
+pub between_split : (first mid last : ℕ) (events : List Event) → first ≤ mid → mid ≤ last → events_between first last events ≡ events_between first mid events ++ events_between mid last events
+between_split first mid last events lower upper =
+    let parts : last - first ≡ (mid - first) + (last - mid) = omega (arith, lower, upper) in
+    let there : first + (mid - first) ≡ mid = omega (arith, lower) in
+    ap (λ (n : ℕ). take n (drop first events)) parts
+    ∙ take-add (mid - first) (last - mid) (drop first events)
+    ∙ ap (λ (rest : List Event). events_between first mid events ++ take (last - mid) rest) (drop_more first (mid - first) events ∙ ap (λ (n : ℕ). drop n events) there)
+
+-- one slot
+pub one_between : (k : ℕ) (events : List Event) (event : Event) → slice_get events k ≡ Some event → events_between k (k + 1) events ≡ event ∷ []
+one_between k events event there = next_between k (k + 1) events event (omega arith) there ∙ ap (λ (rest : List Event). event ∷ rest) (none_between (k + 1) events)
+
+-- a slot among these is one of all
+from_drop : (k : ℕ) (events : List Event) (i : ℕ) → slice_get (drop k events) i ≡ slice_get events (k + i)
+from_drop zero events i = refl
+from_drop (suc k) [] i = refl
+from_drop (suc k) (first ∷ events) i = from_drop k events i
+
+from_take : (n : ℕ) (events : List Event) (i : ℕ) (event : Event) → slice_get (take n events) i ≡ Some event → (i < n) × (slice_get events i ≡ Some event)
+from_take zero events i event there = cc
+from_take (suc n) [] i event there = cc
+from_take (suc n) (first ∷ events) zero event there = (omega arith, there)
+from_take (suc n) (first ∷ events) (suc i) event there = let rest = from_take n events i event there in (omega (arith, rest.0), rest.1)
+
+pub among : (first last : ℕ) (events : List Event) (i : ℕ) (event : Event) → slice_get (events_between first last events) i ≡ Some event → (first + i < last) × (slice_get events (first + i) ≡ Some event)
+among first last events i event there =
+    let taken = from_take (last - first) (drop first events) i event there in
+    (omega (arith, taken.0), sym (from_drop first events i) ∙ taken.1)
 
 length_drop : (k : ℕ) (events : List Event) → length (drop k events) ≤ length events - k
 length_drop zero events = omega arith
@@ -58,6 +98,21 @@ module _ (b : Behaviour) (chip : Chip) (budget : ℕ) where
           → (if over then s else swept b chip budget (tried b chip s event) (first ++ second)) ≡ swept b chip budget (if over then s else swept b chip budget (tried b chip s event) first) second
       by true over rest = sym (swept_ended s second over)
       by false over rest = rest
+
+  -- ---- slots of which none is possible
+  pub swept_idle : (s : ChipState) (events : List Event) → ((i : ℕ) (event : Event) → slice_get events i ≡ Some event → after b chip s event ≡ None) → swept b chip budget s events ≡ s
+  swept_idle s [] none = refl
+  swept_idle s (event ∷ events) none = by (ends budget s)
+    where
+      stays : tried b chip s event ≡ s
+      stays = ap (λ (next : Option ChipState). unwrap_or next s) (none 0 event refl)
+
+      rest : swept b chip budget (tried b chip s event) events ≡ s
+      rest = ap (λ (next : ChipState). swept b chip budget next events) stays ∙ swept_idle s events (λ i other there. none (suc i) other there)
+
+      by : (over : Bool) → (if over then s else swept b chip budget (tried b chip s event) events) ≡ s
+      by true = refl
+      by false = rest
 
   -- ---- one slot
   -- where the budget is spent

@@ -41,9 +41,31 @@ fn sweep_between<U: Unit>(machine: &mut Machine<U>, first: u32, last: u32, budge
     ensures within { length machine.new.state.journal ≤ budget }
 {
     machine.progresses();
-    for k in first..last {
-        try_slot(machine, k, budget);
+    let mut k = first;
+    while k < last {
+        k += pass_slots(machine, k, last, budget);
     }
+}
+
+// Tries one slot, or passes over some of which none is possible: how many slots these are, at least one, and none from the
+// last on.
+fn pass_slots<U: Unit>(machine: &mut Machine<U>, k: u32, last: u32, budget: u32) -> u32
+    requires order { k < last }
+    requires slots { last ≤ slot_count (chip_of machine.old.document) }
+    requires room { budget ≤ machine.old.room }
+    requires within { length machine.old.state.journal ≤ budget }
+    ensures some { 0 < result }
+    ensures inside { k + result ≤ last }
+    ensures swept { SweepsBetween U.behaviour budget k (k + result) machine.old machine.new }
+    ensures within { length machine.new.state.journal ≤ budget }
+{
+    machine.progresses();
+    let idle = machine.idle_slots(k);
+    if idle == 0 {
+        try_slot(machine, k, budget);
+        return 1;
+    }
+    idle.min(last - k)
 }
 
 // Does the event of a slot where it is possible and the budget is not spent.

@@ -1,10 +1,9 @@
-use Rattle.std.proofs.Common.{◌≡◌, ◌+◌, ◌∷◌, [], sym, ◌∙◌, ap, arith}
+use Rattle.std.proofs.Common.{◌≡◌, ◌+◌, sym, ◌∙◌, ap, arith}
 use Rattle.chip_model.specs.Chip.{chip_of}
 use Rattle.chip_model.specs.ChipState.{ChipState}
 use Rattle.chip_model.specs.Schedules.{slots, swept}
-use Rattle.net_iface.proofs.Places.{item_at}
 use Rattle.progress_core.specs.Events.{events_between}
-use Rattle.progress_core.proofs.SweptSlots.{next_between, swept_parts}
+use Rattle.progress_core.proofs.SweptSlots.{between_split, swept_parts}
 use Rattle.progress_core.proofs.sweeping.sweep_between.Goals as goal
 
 pub loop-k-preserved : goal.loop-k-preserved
@@ -12,16 +11,16 @@ loop-k-preserved g c =
     let b = g.U.Unit.behaviour in
     let chip = chip_of c.args.machine.now.document in
     let so_far = c.loop-k.invariant in
-    let event = item_at (slots chip) c.loop-k.k (omega (arith, c.progresses.ensures.count, c.requires.slots, c.loop-k-test.true)) in
-    let document = so_far.same.document in
-    let tried : c.try_slot.new.machine.state ≡ swept b chip c.args.budget c.loop-k.machine.state (event.item ∷ []) =
-    (rw document at c.try_slot.ensures.tried) event.item event.there in
+    let next = c.loop-k.k + c.pass_slots.result in
+    let passed : c.pass_slots.new.machine.state ≡ swept b chip c.args.budget c.loop-k.machine.state (events_between c.loop-k.k next (slots chip)) =
+    (rw so_far.same.document at c.pass_slots.ensures.swept.swept_is) in
     record {
-      same = record { document = c.try_slot.ensures.same.document ∙ so_far.same.document; room = c.try_slot.ensures.same.room ∙ so_far.same.room };
+      same = record { document = c.pass_slots.ensures.swept.same.document ∙ so_far.same.document; room = c.pass_slots.ensures.swept.same.room ∙ so_far.same.room };
       ahead =
-          ap (λ (s : ChipState). swept b chip c.args.budget s (events_between (c.loop-k.k + 1) c.args.last (slots chip))) tried
-          ∙ sym (swept_parts b chip c.args.budget c.loop-k.machine.state (event.item ∷ []) (events_between (c.loop-k.k + 1) c.args.last (slots chip)))
-          ∙ ap (swept b chip c.args.budget c.loop-k.machine.state) (sym (next_between c.loop-k.k c.args.last (slots chip) event.item c.loop-k-test.true event.there))
+          ap (λ (s : ChipState). swept b chip c.args.budget s (events_between next c.args.last (slots chip))) passed
+          ∙ sym (swept_parts b chip c.args.budget c.loop-k.machine.state (events_between c.loop-k.k next (slots chip)) (events_between next c.args.last (slots chip)))
+          ∙ ap (swept b chip c.args.budget c.loop-k.machine.state) (sym (between_split c.loop-k.k next c.args.last (slots chip) (omega arith) c.pass_slots.ensures.inside))
           ∙ so_far.ahead;
-      within = c.try_slot.ensures.within;
+      inside = c.pass_slots.ensures.inside;
+      within = c.pass_slots.ensures.within;
     }

@@ -1,4 +1,4 @@
-use Rattle.std.proofs.Common.{◌≡◌, ◌≤◌, length}
+use Rattle.std.proofs.Common.{◌≡◌, ◌≤◌, ◌-◌, ℕ, length}
 use Rattle.chip_model.specs.Chip.{chip_of}
 use Rattle.chip_model.specs.Schedules.{slots, swept}
 use Rattle.progress_core.specs.Events.{events_between}
@@ -11,5 +11,10 @@ invariant-loop-k g l = record {
   same : SameMachine l.initial.machine l.machine;
   ahead : swept g.U.Unit.behaviour (chip_of l.initial.machine.document) l.budget l.machine.state (events_between l.k l.last (slots (chip_of l.initial.machine.document)))
       ≡ swept g.U.Unit.behaviour (chip_of l.initial.machine.document) l.budget l.initial.machine.state (events_between l.first l.last (slots (chip_of l.initial.machine.document)));
+  inside : l.k ≤ l.last;
   within : length l.machine.state.journal ≤ l.budget;
 }
+
+-- the slots that are left
+abbrev pub decreases-loop-k : goal.decreases-loop-k
+decreases-loop-k g l = l.last - l.k
