@@ -1,6 +1,6 @@
 -- In a finished chip the owner of each line keeps its words, and they are the final words.
-use Rattle.std.proofs.Common.{◌≡◌, ℕ, ◌<◌, Bool, true, false, ◌==◌, ◌||◌, List, [], Option, Some, None, slice_get, is_some, option_map, unwrap_or, length, get_or, sym}
-use Rattle.std.proofs.Common.{ap, ◌∙◌, refl, subst, arith}
+use Rattle.std.proofs.Common.{◌≡◌, ℕ, ◌<◌, true, ◌==◌, List, [], Option, Some, None, slice_get, is_some, option_map, unwrap_or, get_or, sym}
+use Rattle.std.proofs.Common.{ap, ◌∙◌, refl, subst}
 use Rattle.std.proofs.lemmas.Bool.{eq-eqb, false≢true}
 use Rattle.mesh_gen.specs.declared.request.Request.{Request}
 use Rattle.doc_text.specs.Doc.{Doc}

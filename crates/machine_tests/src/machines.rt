@@ -119,6 +119,33 @@ fn slots_name_the_events(rt: HostRuntime) -> Result<(), Fail> {
     Ok(())
 }
 
+// How many slots from one on are told to be idle, where there is such a slot.
+fn idle(machine: &Machine<InOrder>, k: u32) -> Option<u32> {
+    if k < machine.slots() {
+        Some(machine.idle_slots(k))
+    } else {
+        None
+    }
+}
+
+// Slots 7 to 42 are hops, by fours of one channel, and the last ten are of replies. A request that owes its own tile alone
+// cannot hop.
+#[test]
+fn channels_in_which_nothing_stands_are_idle(rt: HostRuntime) -> Result<(), Fail> {
+    let mut machine = opened(rt.alloc())?;
+    assert_eq!(rt; (idle(&machine, 0), idle(&machine, 6)), (Some(0), Some(0)));
+    assert_eq!(rt; (idle(&machine, 7), idle(&machine, 8)), (Some(36), Some(3)));
+    assert_eq!(rt;
+        (idle(&machine, 43), idle(&machine, 44)),
+        (Some(10), Some(0))
+    );
+    for e in EVENTS.iter().take(3) {
+        step(&mut machine, *e)?;
+    }
+    assert_eq!(rt; (idle(&machine, 7), idle(&machine, 53)), (Some(4), None));
+    Ok(())
+}
+
 #[test]
 fn what_is_not_possible_is_refused(rt: HostRuntime) -> Result<(), Fail> {
     let mut machine = opened(rt.alloc())?;

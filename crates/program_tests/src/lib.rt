@@ -9,5 +9,3 @@ mod loads;
 mod outputs;
 #[cfg(test)]
 mod refusals;
-#[cfg(test)]
-mod steps;

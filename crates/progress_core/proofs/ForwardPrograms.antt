@@ -1,5 +1,5 @@
 -- A document is forward where each of its programs is, instruction by instruction.
-use Rattle.std.proofs.Common.{◌≡◌, ◌+◌, ◌<◌, ℕ, zero, suc, Bool, true, false, List, [], ◌∷◌, Some, length, get_or, arith, refl, ap, sym, ◌∙◌}
+use Rattle.std.proofs.Common.{◌≡◌, ◌<◌, ℕ, zero, suc, Bool, true, false, List, [], ◌∷◌, Some, length, get_or, arith, refl, ap, sym, ◌∙◌}
 use Rattle.std.specs.Prelude.{◌&&◌, nat_lt, slice_get, Contains}
 use Rattle.std.specs.List.{list_all}
 use Rattle.std.proofs.lemmas.Bool.{lt-ltb, ltb-true}
@@ -7,7 +7,7 @@ use Rattle.std.proofs.lemmas.Option.{slice_get-get_or}
 use Rattle.core_isa.specs.declared.instr.Instr.{Instr}
 use Rattle.doc_text.specs.Doc.{Doc}
 use Rattle.chip_model.specs.Schedules.{targets, IsForward}
-use Rattle.progress_core.specs.Forward.{goes_forward, ProgramIsForward}
+use Rattle.progress_core.specs.Forward.{ProgramIsForward}
 
 -- the program that a loop has come to
 pub item_here : (items programs : List (List Instr)) (k : ℕ) (program : List Instr) → items ≡ programs → k < length items → program ≡ get_or items k program → slice_get programs k ≡ Some program

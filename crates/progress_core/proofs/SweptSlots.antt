@@ -1,9 +1,8 @@
 -- What is left of a sweep after each slot, and that a sweep in two parts goes through all slots once.
-use Rattle.std.proofs.Common.{◌≡◌, ℕ, zero, suc, ◌+◌, ◌-◌, ◌<◌, ◌≤◌, Bool, true, false, List, [], ◌∷◌, ◌++◌, length, take, drop, length-append, Option, Some, None, refl, sym, ◌∙◌, ap, subst, arith}
+use Rattle.std.proofs.Common.{◌≡◌, ℕ, zero, suc, ◌+◌, ◌-◌, ◌<◌, ◌≤◌, Bool, true, false, List, [], ◌∷◌, ◌++◌, length, take, drop, length-append, Option, Some, None, refl, sym, ◌∙◌, ap, arith}
 use Rattle.std.specs.Prelude.{◌==◌, ◌||◌, slice_get, is_some, unwrap_or, if◌then◌else◌, Result, Ok, Err, OnOk, OnErr}
-use Rattle.std.proofs.lemmas.Bool.{eq-eqb, ne_eqb, true≢false}
+use Rattle.std.proofs.lemmas.Bool.{eq-eqb, ne_eqb}
 use Rattle.std.proofs.lemmas.List.{take_all}
-use Rattle.std.proofs.lemmas.Option.{slice_get_within}
 use Rattle.std.proofs.Math.Seq.{take-add}
 use Rattle.report_text.specs.declared.event.Event.{Event}
 use Rattle.mesh_gen.specs.Partial.{◌>>=◌}
@@ -32,14 +31,15 @@ next_between k last events event below there =
     ap (λ (n : ℕ). take n (drop k events)) more ∙ ap (take (suc (last - (k + 1)))) (drop_next k events event there)
 
 -- the slots up to a later one, in two parts
+drop_nothing : (k : ℕ) → drop {A = Event} k [] ≡ []
+drop_nothing zero = refl
+drop_nothing (suc k) = refl
+
 drop_more : (n m : ℕ) (events : List Event) → drop m (drop n events) ≡ drop (n + m) events
-drop_more zero m events = refl
-drop_more (suc n) m [] = drop_nothing m
-  where
-    drop_nothing : (m : ℕ) → drop m (drop (suc n) []) ≡ drop (suc n + m) []
-    drop_nothing zero = refl
-    drop_nothing (suc m) = refl
-drop_more (suc n) m (first ∷ events) = drop_more n m events
+drop_more zero m events = ap (λ (k : ℕ). drop k events) (omega arith)
+drop_more (suc n) m [] = drop_nothing m ∙ sym (drop_nothing (suc n + m))
+drop_more (suc n) m (first ∷ events) =
+    let next : suc (n + m) ≡ suc n + m = omega arith in drop_more n m events ∙ ap (λ (k : ℕ). drop k (first ∷ events)) next
 
 pub between_split : (first mid last : ℕ) (events : List Event) → first ≤ mid → mid ≤ last → events_between first last events ≡ events_between first mid events ++ events_between mid last events
 between_split first mid last events lower upper =
@@ -55,9 +55,10 @@ one_between k events event there = next_between k (k + 1) events event (omega ar
 
 -- a slot among these is one of all
 from_drop : (k : ℕ) (events : List Event) (i : ℕ) → slice_get (drop k events) i ≡ slice_get events (k + i)
-from_drop zero events i = refl
+from_drop zero events i = ap (slice_get events) (omega arith)
 from_drop (suc k) [] i = refl
-from_drop (suc k) (first ∷ events) i = from_drop k events i
+from_drop (suc k) (first ∷ events) i =
+    let next : suc (k + i) ≡ suc k + i = omega arith in from_drop k events i ∙ ap (slice_get (first ∷ events)) next
 
 from_take : (n : ℕ) (events : List Event) (i : ℕ) (event : Event) → slice_get (take n events) i ≡ Some event → (i < n) × (slice_get events i ≡ Some event)
 from_take zero events i event there = cc
@@ -102,17 +103,14 @@ module _ (b : Behaviour) (chip : Chip) (budget : ℕ) where
   -- ---- slots of which none is possible
   pub swept_idle : (s : ChipState) (events : List Event) → ((i : ℕ) (event : Event) → slice_get events i ≡ Some event → after b chip s event ≡ None) → swept b chip budget s events ≡ s
   swept_idle s [] none = refl
-  swept_idle s (event ∷ events) none = by (ends budget s)
+  swept_idle s (event ∷ events) none = by (ends budget s) (swept_idle s events (λ i other there. none (suc i) other there))
     where
       stays : tried b chip s event ≡ s
       stays = ap (λ (next : Option ChipState). unwrap_or next s) (none 0 event refl)
 
-      rest : swept b chip budget (tried b chip s event) events ≡ s
-      rest = ap (λ (next : ChipState). swept b chip budget next events) stays ∙ swept_idle s events (λ i other there. none (suc i) other there)
-
-      by : (over : Bool) → (if over then s else swept b chip budget (tried b chip s event) events) ≡ s
-      by true = refl
-      by false = rest
+      by : (over : Bool) → swept b chip budget s events ≡ s → (if over then s else swept b chip budget (tried b chip s event) events) ≡ s
+      by true rest = refl
+      by false rest = ap (λ (next : ChipState). swept b chip budget next events) stays ∙ rest
 
   -- ---- one slot
   -- where the budget is spent

@@ -1,4 +1,4 @@
-ghost use Rattle.std.specs.Prelude.{◌≡◌, ◌<◌, ◌≤◌, ◌∷◌, [], Some, length, slice_get};
+ghost use Rattle.std.specs.Prelude.{◌≡◌, ◌+◌, ◌<◌, ◌≤◌, ◌∷◌, [], Some, length, slice_get};
 ghost use Rattle.report_text.specs.declared.event.Event.{Event};
 ghost use Rattle.chip_model.specs.Chip.{chip_of};
 ghost use Rattle.chip_model.specs.Schedules.{slots, slot_count, swept};

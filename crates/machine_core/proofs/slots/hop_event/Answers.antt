@@ -1,4 +1,4 @@
-use Rattle.std.proofs.Common.{◌≡◌, ℕ, Some, ◌+◌, ◌*◌, ◌/◌, ◌%◌, subst, div-add-mod'}
+use Rattle.std.proofs.Common.{◌≡◌, ℕ, Some, ◌%◌, subst, div-add-mod'}
 use Rattle.std.specs.Prelude.{slice_get}
 use Rattle.report_text.specs.declared.event.Event.TheVariants.{Hop}
 use Rattle.chip_model.specs.Chip.{chip_of_mesh}

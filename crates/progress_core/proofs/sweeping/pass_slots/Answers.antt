@@ -1,4 +1,4 @@
-use Rattle.std.proofs.Common.{◌≡◌, ◌+◌, ◌∷◌, [], refl, sym, ◌∙◌, ap, arith}
+use Rattle.std.proofs.Common.{◌+◌, refl, sym, ◌∙◌, ap, arith}
 use Rattle.chip_model.specs.Chip.{chip_of}
 use Rattle.chip_model.specs.Schedules.{slots, swept}
 use Rattle.net_iface.proofs.Places.{item_at}

@@ -1,4 +1,4 @@
-use Rattle.std.proofs.Common.{◌≡◌, ◌≤◌, ◌-◌, ℕ, length}
+use Rattle.std.proofs.Common.{◌≡◌, ◌≤◌, ◌-◌, length}
 use Rattle.chip_model.specs.Chip.{chip_of}
 use Rattle.chip_model.specs.Schedules.{slots, swept}
 use Rattle.progress_core.specs.Events.{events_between}

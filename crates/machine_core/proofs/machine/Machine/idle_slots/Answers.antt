@@ -1,4 +1,4 @@
-use Rattle.std.proofs.Common.{◌≡◌, ◌∙◌, subst, ℕ, ◌-◌, ◌+◌, ◌≤◌, ◌*◌, ◌/◌, ◌%◌, ◌<◌, arith, sym, ap, div-add-mod', mod-lt}
+use Rattle.std.proofs.Common.{◌≡◌, ◌∙◌, subst, ◌-◌, ◌+◌, ◌≤◌, ◌*◌, ◌/◌, ◌%◌, ◌<◌, arith, ap, div-add-mod', mod-lt}
 use Rattle.chip_model.specs.Chip.{Chip, chip_of, tile_count}
 use Rattle.chip_model.specs.Schedules.{slots_per_tile, tile_slots}
 use Rattle.machine_core.specs.Stations.{units_of}
