@@ -14,7 +14,7 @@ MOST_BUDGET = 4_000_000
 SECONDS = 300
 
 USAGE = (b"usage:\n  scorpio order\n  scorpio show\n  scorpio deliver\n"
-         b"  scorpio step [--pace n] [--budget n]\n  scorpio gen n [--text]")
+         b"  scorpio step [--pace n] [--budget n]\n  scorpio run [--budget n]\n  scorpio gen n [--text]")
 # What standard error has to say at each status. At status 2 any fault of a document may be told.
 LINES = {
     0: b"",

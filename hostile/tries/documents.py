@@ -9,6 +9,10 @@ from support.trials import Trial
 DOCUMENTS, OF_ALL = 1000, 10_000
 # How many documents are one trial.
 TOGETHER = 20
+# Every so many documents one is also run with a thread for each tile, which takes longer.
+THREADS_EVERY = 10
+# How many events of each tile a round adds at most.
+ROUND_EVENTS = 17
 
 
 def trials(options):
@@ -19,10 +23,15 @@ def trials(options):
 
 def several(program, seed, numbers):
     for number in numbers:
-        try_document(program, made(seed, number))
+        document = made(seed, number)
+        meant = try_document(program, document)
+        if meant is not None and number % THREADS_EVERY == 0:
+            by_threads = program.run(["run", "--budget", str(document.budget)], document.data)
+            check_run(by_threads, meant, document.budget, ROUND_EVENTS * meant.tiles() - 1)
 
 
 def try_document(program, document):
+    """Tries each command that has no threads. The document as it is read, where it has no fault."""
     run = ["step", "--pace", str(document.pace), "--budget", str(document.budget)]
     ends = {words[0]: program.run(words, document.data) for words in (["order"], ["deliver"], ["show"], run)}
     try:
@@ -30,37 +39,38 @@ def try_document(program, document):
     except reading.DocFault as fault:
         for end in ends.values():
             end.wants(2, b"", fault.line())
-        return
+        return None
     ends["order"].wants(0, order_text(meant))
     ends["deliver"].wants(0, deliver_text(meant))
     ends["show"].wants(0, meant.canonical_text())
-    check_run(ends["step"], meant, document.budget)
+    check_run(ends["step"], meant, document.budget, 0)
+    return meant
 
 
-def check_run(end, document, budget):
+def check_run(end, document, budget, beyond):
     """That a run reported what every run of the document has to. Nothing of its schedule is asked, so any command that
-    writes a report is checked by this."""
+    writes a report is checked by this. Its journal may have so many events more than the budget."""
     end.wants_one_of({0, 3})
     try:
         run = report.parse(end.text)
-        wrong = next(_wrongs(run, document, budget, end.status), None)
+        wrong = next(_wrongs(run, document, budget, beyond, end.status), None)
     except (report.Malformed, flat.NoExecution, journal.NotEnabled) as cause:
         wrong = f"{type(cause).__name__}: {cause}"
     if wrong is not None:
         end.refuse(wrong)
 
 
-def _wrongs(run, document, budget, status):
+def _wrongs(run, document, budget, beyond, status):
     """What is wrong with a report: the first is told."""
-    yield from _wrong_end(run, document, budget, status)
+    yield from _wrong_end(run, document, budget, beyond, status)
     yield from _wrong_requests(run, document)
     yield from _wrong_accesses(run, document)
 
 
-def _wrong_end(run, document, budget, status):
+def _wrong_end(run, document, budget, beyond, status):
     if run.ended != {0: "finished", 3: "budget"}[status]:
         yield f"it ended {run.ended} with status {status}"
-    if len(run.journal) > budget or (status == 3 and len(run.journal) != budget):
+    if len(run.journal) > budget + beyond or (status == 3 and len(run.journal) < budget):
         yield f"{len(run.journal)} events, and a budget of {budget}"
     if all(map(goes_forward, document.programs.values())):
         bound = document.bound()

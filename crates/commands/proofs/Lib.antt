@@ -10,3 +10,4 @@ pub mod ReportTables
 pub mod ReportedRuns
 pub mod Runs
 pub mod Windows
+pub mod RoundedRuns

@@ -24,7 +24,7 @@ spent_with : (d : Doc) (s : ChipState) (budget : ℕ) (is_finished : Bool) → (
 spent_with d s budget true ended is = absurd cc
 spent_with d s budget false ended is = eqb-true _ _ (one_of (length s.journal == budget) ended)
 
-finished_with : (d : Doc) (s : ChipState) (is_finished : Bool) → is_finished ≡ true → (report_with d s is_finished).ended ≡ Finished
+pub finished_with : (d : Doc) (s : ChipState) (is_finished : Bool) → is_finished ≡ true → (report_with d s is_finished).ended ≡ Finished
 finished_with d s true is = refl
 finished_with d s false is = absurd cc
 

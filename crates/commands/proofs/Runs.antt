@@ -39,38 +39,38 @@ read_is_taken source (Err WriteFault) read = (refl, read)
 read_is_taken source (Err TooLong) read = (refl, read)
 
 -- a command that has no document writes nothing
-pub ran_without : (command : Command) (source sink : Stream) (stop : Stop) → IsTaken (load_of command) source (Err stop) → sink.new ≡ sink.old
-    → Ran command source sink None (Err stop)
-ran_without command source sink NoMemory taken same = (same, refl)
-ran_without command source sink Usage taken same = absurd taken.1
-ran_without command source sink (Faulty fault) taken same = (taken.0, taken.1, same, refl)
-ran_without command source sink ReadFault taken same = (taken.0, taken.1, same, refl)
-ran_without command source sink WriteFault taken same = absurd taken.1
-ran_without command source sink TooLong taken same = (taken.0, taken.1, same, refl)
+pub ran_without : (command : Command) (source sink : Stream) (left : ℕ) (stop : Stop) → IsTaken (load_of command) source (Err stop) → sink.new ≡ sink.old
+    → Ran command source sink left None (Err stop)
+ran_without command source sink left NoMemory taken same = (same, refl)
+ran_without command source sink left Usage taken same = absurd taken.1
+ran_without command source sink left (Faulty fault) taken same = (taken.0, taken.1, same, refl)
+ran_without command source sink left ReadFault taken same = (taken.0, taken.1, same, refl)
+ran_without command source sink left WriteFault taken same = absurd taken.1
+ran_without command source sink left TooLong taken same = (taken.0, taken.1, same, refl)
 
 -- what was written of a document was written of that of the command
-written_for : (command : Command) (document : Doc) (input : Option (List ℕ)) (report : Option Report) (Out : List ℕ → Type 0)
-    → OfDocument (load_of command) input (λ doc. doc ≡ document) → (text : List ℕ) × IsTextOf command document report text × Out text
-    → OfDocument (load_of command) input (λ doc. (text : List ℕ) × IsTextOf command doc report text × Out text)
-written_for command document input report Out taken written =
-    of_document (load_of command) input (λ doc. doc ≡ document) (λ doc. (text : List ℕ) × IsTextOf command doc report text × Out text)
-    (λ doc is. subst (λ (d : Doc). (text : List ℕ) × IsTextOf command d report text × Out text) (sym is) written) taken
+written_for : (command : Command) (document : Doc) (input : Option (List ℕ)) (left : ℕ) (report : Option Report) (Out : List ℕ → Type 0)
+    → OfDocument (load_of command) input (λ doc. doc ≡ document) → (text : List ℕ) × IsTextOf command document left report text × Out text
+    → OfDocument (load_of command) input (λ doc. (text : List ℕ) × IsTextOf command doc left report text × Out text)
+written_for command document input left report Out taken written =
+    of_document (load_of command) input (λ doc. doc ≡ document) (λ doc. (text : List ℕ) × IsTextOf command doc left report text × Out text)
+    (λ doc is. subst (λ (d : Doc). (text : List ℕ) × IsTextOf command d left report text × Out text) (sym is) written) taken
 
-pub ran : (command : Command) (document : Doc) (source sink : Stream) (report : Option Report) (result : Result Unit Stop)
-    → OfDocument (load_of command) source.old (λ doc. doc ≡ document) → Did command document sink report result → Ran command source sink report result
-ran command document source sink report (Ok done) taken did = (written_for command document source.old report (Appends sink.old sink.new) taken did.0, did.1)
-ran command document source sink report (Err WriteFault) taken did =
-    (written_for command document source.old report (AppendsPart sink.old sink.new) taken did.0, did.1, did.2)
-ran command document source sink report (Err NoMemory) taken did = did
-ran command document source sink report (Err Usage) taken did = absurd did
-ran command document source sink report (Err (Faulty fault)) taken did = absurd did
-ran command document source sink report (Err ReadFault) taken did = absurd did
-ran command document source sink report (Err TooLong) taken did = absurd did
+pub ran : (command : Command) (document : Doc) (source sink : Stream) (left : ℕ) (report : Option Report) (result : Result Unit Stop)
+    → OfDocument (load_of command) source.old (λ doc. doc ≡ document) → Did command document sink left report result → Ran command source sink left report result
+ran command document source sink left report (Ok done) taken did = (written_for command document source.old left report (Appends sink.old sink.new) taken did.0, did.1)
+ran command document source sink left report (Err WriteFault) taken did =
+    (written_for command document source.old left report (AppendsPart sink.old sink.new) taken did.0, did.1, did.2)
+ran command document source sink left report (Err NoMemory) taken did = did
+ran command document source sink left report (Err Usage) taken did = absurd did
+ran command document source sink left report (Err (Faulty fault)) taken did = absurd did
+ran command document source sink left report (Err ReadFault) taken did = absurd did
+ran command document source sink left report (Err TooLong) taken did = absurd did
 
 -- what a command tells of its report was written
-pub report_was_written : (command : Command) (doc : Doc) (sink : Stream) (report : Report) (result : Result Unit Stop)
-    → IsReportOf command doc report → HasReport command (Some report) → Writes sink (told_of command report) result → IfErr result (λ stop. stop ≡ WriteFault)
-    → Did command doc sink (Some report) result
-report_was_written command doc sink report (Ok done) is has writes fault = ((told_of command report, (is, refl), writes.ok), has)
-report_was_written command doc sink report (Err stop) is has writes fault =
-    subst (λ (end : Stop). Did command doc sink (Some report) (Err end)) (sym fault) ((told_of command report, (is, refl), writes.err), writes.fault, has)
+pub report_was_written : (command : Command) (doc : Doc) (sink : Stream) (left : ℕ) (report : Report) (result : Result Unit Stop)
+    → IsReportOf command doc left report → HasReport command (Some report) → Writes sink (told_of command report) result → IfErr result (λ stop. stop ≡ WriteFault)
+    → Did command doc sink left (Some report) result
+report_was_written command doc sink left report (Ok done) is has writes fault = ((told_of command report, (is, refl), writes.ok), has)
+report_was_written command doc sink left report (Err stop) is has writes fault =
+    subst (λ (end : Stop). Did command doc sink left (Some report) (Err end)) (sym fault) ((told_of command report, (is, refl), writes.err), writes.fault, has)

@@ -6,7 +6,7 @@ use Rattle.mesh_gen.specs.Limits.{IsFrom}
 use Rattle.mesh_gen.specs.Partial.{◌>>=◌}
 use Rattle.core_isa.specs.Operands.{is_digits, number_value}
 use Rattle.commands.specs.declared.command.Command.{Command}
-use Rattle.commands.specs.declared.command.Command.TheVariants.{Order, Show, Deliver, Step, Gen, GenText}
+use Rattle.commands.specs.declared.command.Command.TheVariants.{Order, Show, Deliver, Step, Run, Gen, GenText}
 use Rattle.commands.specs.declared.options.StepOption.{StepOption}
 use Rattle.commands.specs.declared.options.StepOption.TheVariants.{Pace, Budget}
 
@@ -35,11 +35,15 @@ number_within least most word =
 abbrev pub load_numbered : List ℕ → Option ℕ
 load_numbered word = number_within 0 most_load word
 
+-- the budget that a word is
+abbrev pub budget_numbered : List ℕ → Option ℕ
+budget_numbered word = number_within 1 most_budget word
+
 -- the option of a name and a number
 abbrev pub option_named : List ℕ → List ℕ → Option StepOption
 option_named name number =
     if bytes_eq name (codes "--pace") then option_map Pace (number_within 0 most_pace number)
-    else if bytes_eq name (codes "--budget") then option_map Budget (number_within 1 most_budget number)
+    else if bytes_eq name (codes "--budget") then option_map Budget (budget_numbered number)
     else None
 
 -- `step` with one option; the other one has its default
@@ -61,6 +65,7 @@ IsWithinLimits (Budget budget) = IsFrom 1 most_budget budget
 -- the numbers of a command are within their limits
 abbrev pub KeepsLimits : Command → Type 0
 KeepsLimits (Step pace budget) = IsFrom 1 most_budget budget
+KeepsLimits (Run budget) = IsFrom 1 most_budget budget
 KeepsLimits command = ⊤
 
 -- the number of the load that a command makes, in place of a document that it reads
@@ -76,6 +81,7 @@ named word =
     else if bytes_eq word (codes "show") then Some Show
     else if bytes_eq word (codes "deliver") then Some Deliver
     else if bytes_eq word (codes "step") then Some (Step 0 default_budget)
+    else if bytes_eq word (codes "run") then Some (Run default_budget)
     else None
 
 -- the command of these arguments; none where they are the form of no command
@@ -85,6 +91,7 @@ command_named (word ∷ number ∷ []) =
     if bytes_eq word (codes "gen") then option_map Gen (load_numbered number) else None
 command_named (word ∷ second ∷ third ∷ []) =
     if bytes_eq word (codes "step") then option_map step_by (option_named second third)
+    else if bytes_eq word (codes "run") && bytes_eq second (codes "--budget") then option_map Run (budget_numbered third)
     else if bytes_eq word (codes "gen") && bytes_eq third (codes "--text") then option_map GenText (load_numbered second)
     else None
 command_named (word ∷ name ∷ number ∷ other_name ∷ other_number ∷ []) =

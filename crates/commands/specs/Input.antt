@@ -31,12 +31,12 @@ pub record HasFault (bytes : List ℕ) (fault : DocFault) : Type 0 where
   pub refused : reading bytes ≡ Err fault
 
 -- a whole text of a command for its document was appended, that of its report where it has one
-abbrev pub WritesFor : Command → Option (List ℕ) → Option Report → Option (List ℕ) → Option (List ℕ) → Type 0
-WritesFor command input report old new = OfDocument (load_of command) input (λ doc. (text : List ℕ) × IsTextOf command doc report text × Appends old new text)
+abbrev pub WritesFor : Command → Option (List ℕ) → ℕ → Option Report → Option (List ℕ) → Option (List ℕ) → Type 0
+WritesFor command input left report old new = OfDocument (load_of command) input (λ doc. (text : List ℕ) × IsTextOf command doc left report text × Appends old new text)
 
 -- a prefix of it was appended
-abbrev pub WritesPartFor : Command → Option (List ℕ) → Option Report → Option (List ℕ) → Option (List ℕ) → Type 0
-WritesPartFor command input report old new = OfDocument (load_of command) input (λ doc. (text : List ℕ) × IsTextOf command doc report text × AppendsPart old new text)
+abbrev pub WritesPartFor : Command → Option (List ℕ) → ℕ → Option Report → Option (List ℕ) → Option (List ℕ) → Type 0
+WritesPartFor command input left report old new = OfDocument (load_of command) input (λ doc. (text : List ℕ) × IsTextOf command doc left report text × AppendsPart old new text)
 
 -- more bytes came than the limit, of which one more than the limit was taken
 abbrev pub IsTooLong : Option (List ℕ) → Option (List ℕ) → Type 0

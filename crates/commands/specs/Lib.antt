@@ -8,3 +8,4 @@ pub mod Outcome
 pub mod Steps
 pub mod Stops
 pub mod Texts
+pub mod Rounds

@@ -27,13 +27,13 @@ WroteSome IsText sink (Err WriteFault) = ((text : List ℕ) × IsText text × Ap
 WroteSome IsText sink (Err NoMemory) = sink.new ≡ sink.old
 WroteSome IsText sink (Err _) = ⊥
 
--- of a command that has its document, with this report or none
-abbrev pub Did : Command → Doc → Stream → Option Report → Result Unit Stop → Type 0
-Did command doc sink report (Ok done) = ((text : List ℕ) × IsTextOf command doc report text × Appends sink.old sink.new text) × HasReport command report
-Did command doc sink report (Err WriteFault) =
-    ((text : List ℕ) × IsTextOf command doc report text × AppendsPart sink.old sink.new text) × Rose sink.before sink.now × HasReport command report
-Did command doc sink report (Err NoMemory) = (sink.new ≡ sink.old) × (report ≡ None)
-Did command doc sink report (Err _) = ⊥
+-- of a command that has its document, with this report or none, and so many rounds left out
+abbrev pub Did : Command → Doc → Stream → ℕ → Option Report → Result Unit Stop → Type 0
+Did command doc sink left report (Ok done) = ((text : List ℕ) × IsTextOf command doc left report text × Appends sink.old sink.new text) × HasReport command report
+Did command doc sink left report (Err WriteFault) =
+    ((text : List ℕ) × IsTextOf command doc left report text × AppendsPart sink.old sink.new text) × Rose sink.before sink.now × HasReport command report
+Did command doc sink left report (Err NoMemory) = (sink.new ≡ sink.old) × (report ≡ None)
+Did command doc sink left report (Err _) = ⊥
 
 -- of reading a document: it is that of the input, where this is told, or the cause of the refusal
 abbrev pub IsRead : Stream → Result Document Stop → Type 0
@@ -52,12 +52,12 @@ IsTaken number source (Err NoMemory) = Unit
 IsTaken number source (Err stop) = (number ≡ None) × IsRead source (Err stop)
 
 -- of a command that gets its document and writes its text: what was written, the report, and the cause of each refusal
-abbrev pub Ran : Command → Stream → Stream → Option Report → Result Unit Stop → Type 0
-Ran command source sink report (Ok done) = WritesFor command source.old report sink.old sink.new × HasReport command report
-Ran command source sink report (Err Usage) = ⊥
-Ran command source sink report (Err (Faulty fault)) =
+abbrev pub Ran : Command → Stream → Stream → ℕ → Option Report → Result Unit Stop → Type 0
+Ran command source sink left report (Ok done) = WritesFor command source.old left report sink.old sink.new × HasReport command report
+Ran command source sink left report (Err Usage) = ⊥
+Ran command source sink left report (Err (Faulty fault)) =
     (load_of command ≡ None) × IfSome source.old (λ bytes. HasFault bytes fault) × (sink.new ≡ sink.old) × (report ≡ None)
-Ran command source sink report (Err ReadFault) = (load_of command ≡ None) × Rose source.before source.now × (sink.new ≡ sink.old) × (report ≡ None)
-Ran command source sink report (Err WriteFault) = WritesPartFor command source.old report sink.old sink.new × Rose sink.before sink.now × HasReport command report
-Ran command source sink report (Err NoMemory) = (sink.new ≡ sink.old) × (report ≡ None)
-Ran command source sink report (Err TooLong) = (load_of command ≡ None) × IsTooLong source.old source.new × (sink.new ≡ sink.old) × (report ≡ None)
+Ran command source sink left report (Err ReadFault) = (load_of command ≡ None) × Rose source.before source.now × (sink.new ≡ sink.old) × (report ≡ None)
+Ran command source sink left report (Err WriteFault) = WritesPartFor command source.old left report sink.old sink.new × Rose sink.before sink.now × HasReport command report
+Ran command source sink left report (Err NoMemory) = (sink.new ≡ sink.old) × (report ≡ None)
+Ran command source sink left report (Err TooLong) = (load_of command ≡ None) × IsTooLong source.old source.new × (sink.new ≡ sink.old) × (report ≡ None)

@@ -3,19 +3,22 @@ ghost use Rattle.outside_io.specs.Streams.{stream};
 ghost use Rattle.doc_text.specs.Doc.{doc_of};
 ghost use Rattle.commands.specs.Arguments.{command_named, named, load_of, KeepsLimits};
 ghost use Rattle.commands.specs.Outcome.{Did, IsRead, IsTaken, Ran};
+ghost use Rattle.commands.specs.Texts.{LeavesOut};
 ghost use Rattle.commands.specs.declared.command.Command.{Command};
 
 use crate::deliver::write_deliveries;
 use crate::load::write_load_run;
-use crate::options::{DEFAULT_BUDGET, StepOption, load_numbered};
+use crate::options::{DEFAULT_BUDGET, StepOption, budget_numbered, load_numbered};
 use crate::order::write_order;
+use crate::rounds::write_rounds;
 use crate::show::write_shown;
 use crate::step::write_steps;
-use crate::{Outcome, Stop};
+use crate::{Gate, Outcome, Stop};
 use load_gen::generate;
 use mesh_doc::{Document, read_document};
 use outside_io::{Sink, Source, read_all};
 use std::alloc::Global;
+use std::thread::Threads;
 
 // How many bytes an input may have.
 const INPUT_LIMIT: u32 = 1 << 20;
@@ -33,6 +36,11 @@ pub enum Command {
     Step {
         pace: u32,
         /// How many events the run has at most.
+        budget: u32,
+    },
+    /// Runs the document's programs by rounds with a thread for each tile, and writes the report.
+    Run {
+        /// From how many events on no further round is made.
         budget: u32,
     },
     /// Makes the load of a number, runs it by the pace of the same number, and writes a summary of the run.
@@ -77,13 +85,17 @@ impl Command {
         }
     }
 
-    // The command that three words are the form of: `step` with an option, or `gen` with its own.
+    // The command that three words are the form of: `step` or `run` with an option, or `gen` with its own.
     fn with_option(word: &str, second: &str, third: &str) -> Option<Command>
         ensures named { result ≡ command_named (word.now ∷ second.now ∷ third.now ∷ []) }
         ensures limits { IfSome result KeepsLimits }
     {
         if word == "step" {
             Some(StepOption::named(second, third)?.alone())
+        } else if word == "run" && second == "--budget" {
+            Some(Command::Run {
+                budget: budget_numbered(third)?,
+            })
         } else if word == "gen" && third == "--text" {
             Some(Command::GenText {
                 load: load_numbered(second)?,
@@ -105,6 +117,9 @@ impl Command {
                 pace: 0,
                 budget: DEFAULT_BUDGET,
             }),
+            "run" => Some(Command::Run {
+                budget: DEFAULT_BUDGET,
+            }),
             _ => None,
         }
     }
@@ -119,40 +134,51 @@ impl Command {
         }
     }
 
-    /// Makes the load that the command names, or reads a document to its end, and writes what the command wants of it.
-    pub fn run<S: Source, K: Sink>(self, alloc: Global, source: &mut S, sink: &mut K) -> Outcome
+    /// Makes the load that the command names, or reads a document to its end, and writes what the command wants of it. Where
+    /// tiles have threads, each passes the gate once a round.
+    pub fn run<R: Threads + Sync, S: Source, K: Sink, G: Gate>(
+        self,
+        rt: &R,
+        alloc: Global,
+        source: &mut S,
+        sink: &mut K,
+        gate: &G,
+    ) -> Outcome
         requires { KeepsLimits self }
         ensures ran { Ran self (stream S.left S.faults source.old source.new)
-            (stream K.held K.faults sink.old sink.new) result.report result.result }
+            (stream K.held K.faults sink.old sink.new) result.left result.report result.result }
+        ensures left { LeavesOut self result.left }
         ensures unread { IsSome (load_of self) → source.new ≡ source.old }
     {
         match take_document(alloc, self.load(), source) {
-            Ok(document) => self.write(alloc, document, sink),
-            Err(stop) => Outcome {
-                report: None,
-                result: Err(stop),
-            },
+            Ok(document) => self.write(rt, alloc, document, sink, gate),
+            Err(stop) => Outcome::plain(Err(stop)),
         }
     }
 
     // A text of the command for a document, and its report.
-    fn write<K: Sink>(self, alloc: Global, document: Document, sink: &mut K) -> Outcome
+    fn write<R: Threads + Sync, K: Sink, G: Gate>(
+        self,
+        rt: &R,
+        alloc: Global,
+        document: Document,
+        sink: &mut K,
+        gate: &G,
+    ) -> Outcome
         requires { KeepsLimits self }
-        ensures { Did self (doc_of document) (stream K.held K.faults sink.old sink.new)
-            result.report result.result }
+        ensures did { Did self (doc_of document) (stream K.held K.faults sink.old sink.new)
+            result.left result.report result.result }
+        ensures left { LeavesOut self result.left }
     {
-        let result = match self {
-            Command::Order => write_order(alloc, &document, sink),
-            Command::Show | Command::GenText { .. } => write_shown(&document, sink),
-            Command::Deliver => write_deliveries(alloc, &document, sink),
-            Command::Step { pace, budget } => {
-                return write_steps(alloc, document, pace, budget, sink);
+        match self {
+            Command::Order => Outcome::plain(write_order(alloc, &document, sink)),
+            Command::Show | Command::GenText { .. } => {
+                Outcome::plain(write_shown(&document, sink))
             }
-            Command::Gen { load } => return write_load_run(alloc, document, load, sink),
-        };
-        Outcome {
-            report: None,
-            result,
+            Command::Deliver => Outcome::plain(write_deliveries(alloc, &document, sink)),
+            Command::Step { pace, budget } => write_steps(alloc, document, pace, budget, sink),
+            Command::Run { budget } => write_rounds(rt, alloc, document, budget, sink, gate),
+            Command::Gen { load } => write_load_run(alloc, document, load, sink),
         }
     }
 }

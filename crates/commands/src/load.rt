@@ -24,14 +24,16 @@ pub(crate) fn write_load_run<K: Sink>(
     load: u32,
     sink: &mut K,
 ) -> Outcome
-    ensures { Did (Gen load) (doc_of document) (stream K.held K.faults sink.old sink.new)
-        result.report result.result }
+    ensures did { Did (Gen load) (doc_of document) (stream K.held K.faults sink.old sink.new)
+        result.left result.report result.result }
+    ensures left { result.left ≡ 0 }
 {
     match run_steps(alloc, document, load, DEFAULT_BUDGET) {
         Ok(report) => write_summarized(load, report, sink),
         Err(_) => Outcome {
             report: None,
             result: Err(Stop::NoMemory),
+            left: 0,
         },
     }
 }
@@ -39,6 +41,7 @@ pub(crate) fn write_load_run<K: Sink>(
 // Writes the summary of a report.
 fn write_summarized<K: Sink>(load: u32, report: Report, sink: &mut K) -> Outcome
     ensures report { result.report ≡ Some report }
+    ensures left { result.left ≡ 0 }
     ensures written { Writes (stream K.held K.faults sink.old sink.new) (summary_text load report)
         result.result }
     ensures fault { IfErr result.result (λ stop. stop ≡ WriteFailed) }
@@ -50,5 +53,6 @@ fn write_summarized<K: Sink>(load: u32, report: Report, sink: &mut K) -> Outcome
     Outcome {
         report: Some(report),
         result,
+        left: 0,
     }
 }

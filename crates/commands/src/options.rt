@@ -1,7 +1,7 @@
 ghost use Rattle.std.specs.Prelude.{◌≡◌, IfSome};
 ghost use Rattle.mesh_gen.specs.Limits.{IsFrom};
 ghost use Rattle.std.specs.Str.{all_ascii_digits};
-ghost use Rattle.commands.specs.Arguments.{number_within, load_numbered, option_named, step_by, step_by_both, IsWithinLimits, KeepsLimits};
+ghost use Rattle.commands.specs.Arguments.{number_within, budget_numbered, load_numbered, option_named, step_by, step_by_both, IsWithinLimits, KeepsLimits};
 ghost use Rattle.commands.specs.declared.options.StepOption.{StepOption};
 
 use crate::Command;
@@ -32,7 +32,7 @@ impl StepOption {
         if name == "--pace" {
             Some(StepOption::Pace(number_within(0, MOST_PACE, number)?))
         } else if name == "--budget" {
-            Some(StepOption::Budget(number_within(1, MOST_BUDGET, number)?))
+            Some(StepOption::Budget(budget_numbered(number)?))
         } else {
             None
         }
@@ -64,6 +64,14 @@ impl StepOption {
             _ => None,
         }
     }
+}
+
+/// The budget that a word is, where it is one.
+pub(crate) fn budget_numbered(word: &str) -> Option<u32>
+    ensures number { result ≡ budget_numbered word.now }
+    ensures within { IfSome result (IsFrom 1 4000000) }
+{
+    number_within(1, MOST_BUDGET, word)
 }
 
 /// The number of a load that a word is, where it is one.

@@ -31,22 +31,25 @@ pub(crate) fn write_steps<K: Sink>(
     sink: &mut K,
 ) -> Outcome
     requires { IsFrom 1 4000000 budget }
-    ensures { Did (Step pace budget) (doc_of document)
-        (stream K.held K.faults sink.old sink.new) result.report result.result }
+    ensures did { Did (Step pace budget) (doc_of document)
+        (stream K.held K.faults sink.old sink.new) result.left result.report result.result }
+    ensures left { result.left ≡ 0 }
 {
     match run_steps(alloc, document, pace, budget) {
-        Ok(report) => write_run(report, sink),
+        Ok(report) => write_run(report, 0, sink),
         Err(_) => Outcome {
             report: None,
             result: Err(Stop::NoMemory),
+            left: 0,
         },
     }
 }
 
-// Writes the text of a report.
-fn write_run<K: Sink>(report: Report, sink: &mut K) -> Outcome
+/// Writes the text of a report of a run, in which so many rounds were left out.
+pub(crate) fn write_run<K: Sink>(report: Report, left: u32, sink: &mut K) -> Outcome
     requires { IsTabular report }
     ensures report { result.report ≡ Some report }
+    ensures left { result.left ≡ left }
     ensures written { Writes (stream K.held K.faults sink.old sink.new) (report_text report)
         result.result }
     ensures fault { IfErr result.result (λ stop. stop ≡ WriteFault) }
@@ -58,6 +61,7 @@ fn write_run<K: Sink>(report: Report, sink: &mut K) -> Outcome
     Outcome {
         report: Some(report),
         result,
+        left,
     }
 }
 

@@ -1,6 +1,7 @@
-use commands::{Command, Outcome};
+use commands::{Command, Gate, Outcome};
 use outside_io::{MemSink, MemSource};
 use std::alloc::{AllocError, Global};
+use std::thread::Threads;
 
 const CHUNK: u32 = 1 << 20;
 
@@ -21,8 +22,16 @@ pub(crate) fn output(alloc: Global, fails: &[u32]) -> Result<MemSink, AllocError
     Ok(MemSink::new(vec![in alloc; 0; ROOM]?, Vec::from_slice(alloc, fails)?))
 }
 
+/// Holds no tile back.
+pub(crate) struct OpenGate;
+
+impl Gate for OpenGate {
+    fn pass(&self, _tile: u8, _turn: u32) {}
+}
+
 /// How the command of these arguments ends over a document, and what it has written into a sink of whose calls these fail.
-pub(crate) fn done(
+pub(crate) fn done<R: Threads + Sync>(
+    rt: &R,
     alloc: Global,
     words: &[&str],
     text: &str,
@@ -33,6 +42,6 @@ pub(crate) fn done(
     };
     let mut source = input(alloc, text.as_bytes(), &[])?;
     let mut sink = output(alloc, fails)?;
-    let outcome = command.run(alloc, &mut source, &mut sink);
+    let outcome = command.run(rt, alloc, &mut source, &mut sink, &OpenGate);
     Ok((outcome, sink))
 }

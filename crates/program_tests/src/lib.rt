@@ -4,8 +4,6 @@
 #[cfg(test)]
 mod fixtures;
 #[cfg(test)]
-mod loads;
-#[cfg(test)]
 mod outputs;
 #[cfg(test)]
 mod refusals;

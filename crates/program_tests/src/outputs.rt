@@ -1,4 +1,4 @@
-use crate::fixtures::{done, input, output};
+use crate::fixtures::{OpenGate, done, input, output};
 use commands::{Command, Stop};
 use std::alloc::{AllocError, Global};
 use std::test::Fail;
@@ -52,7 +52,7 @@ const TEXTS: [(&str, &str, &str); 10] = [
 fn each_command_writes_its_text_with_ample_memory(rt: HostRuntime) -> Result<(), Fail> {
     let alloc = rt.alloc();
     for (command, text, written) in TEXTS {
-        let (outcome, sink) = done(alloc, &[command], text, &[])?;
+        let (outcome, sink) = done(&rt, alloc, &[command], text, &[])?;
         assert!(rt; outcome.result.is_ok(), "of {text}");
         assert!(rt; outcome.report.is_none());
         assert_eq!(rt; sink.held(), written.as_bytes(), "of {text}");
@@ -100,7 +100,7 @@ fn lines_of_all(alloc: Global, tiles: u8, sources: &str) -> Result<String, Alloc
 fn every_tile_delivers_the_whole_order(rt: HostRuntime) -> Result<(), Fail> {
     let alloc = rt.alloc();
     for (text, tiles, sources) in ORDERS {
-        let (outcome, sink) = done(alloc, &["deliver"], text, &[])?;
+        let (outcome, sink) = done(&rt, alloc, &["deliver"], text, &[])?;
         assert!(rt; outcome.result.is_ok(), "of {text}");
         let lines = lines_of_all(alloc, tiles, sources)?;
         assert_eq!(rt; sink.held(), lines.as_bytes(), "of {text}");
@@ -119,7 +119,7 @@ const CUT_TEXTS: [(&str, &str); 3] = [
 fn a_write_that_fails_leaves_a_prefix(rt: HostRuntime) -> Result<(), Fail> {
     let alloc = rt.alloc();
     for (command, written) in CUT_TEXTS {
-        let (outcome, sink) = done(alloc, &[command], FOUR_TILES, &[2])?;
+        let (outcome, sink) = done(&rt, alloc, &[command], FOUR_TILES, &[2])?;
         assert!(rt;
             matches!(&outcome.result, Err(Stop::WriteFault)),
             "of {written}"
@@ -142,7 +142,7 @@ fn a_description_that_is_cut_is_shown_or_refused(rt: HostRuntime) -> Result<(), 
         for length in 0..text.len() {
             let mut source = input(alloc, text.as_bytes().split_at(length).0, &[])?;
             let mut sink = output(alloc, &[])?;
-            let outcome = Command::Show.run(alloc, &mut source, &mut sink);
+            let outcome = Command::Show.run(&rt, alloc, &mut source, &mut sink, &OpenGate);
             assert!(rt;
                 matches!(&outcome.result, Ok(()) | Err(Stop::Document(_))),
                 "at {length}"

@@ -1,7 +1,8 @@
-use crate::fixtures::{input, output};
+use crate::fixtures::{OpenGate, input, output};
 use commands::{Command, Outcome, Stop};
 use std::alloc::{AllocError, Global};
 use std::test::Fail;
+use std::thread::Threads;
 
 // Documents of a mesh, and what is said of the first fault: nothing where they are shown.
 const SAID: [(&str, &str); 17] = [
@@ -58,10 +59,10 @@ const SAID: [(&str, &str); 17] = [
 ];
 
 // What is said of the fault of a document: nothing where it has none.
-fn said(alloc: Global, text: &str) -> Result<String, AllocError> {
+fn said<R: Threads + Sync>(rt: &R, alloc: Global, text: &str) -> Result<String, AllocError> {
     let mut source = input(alloc, text.as_bytes(), &[])?;
     let mut sink = output(alloc, &[])?;
-    let Outcome { result, .. } = Command::Show.run(alloc, &mut source, &mut sink);
+    let Outcome { result, .. } = Command::Show.run(rt, alloc, &mut source, &mut sink, &OpenGate);
     match result {
         Err(Stop::Document(fault)) => format!(in alloc; "{fault}"),
         Err(_) => Err(AllocError),
@@ -72,7 +73,7 @@ fn said(alloc: Global, text: &str) -> Result<String, AllocError> {
 #[test]
 fn faulty_descriptions_are_refused_by_name(rt: HostRuntime) -> Result<(), Fail> {
     for (text, message) in SAID {
-        assert_eq!(rt; said(rt.alloc(), text)?.as_str(), message, "of {text}");
+        assert_eq!(rt; said(&rt, rt.alloc(), text)?.as_str(), message, "of {text}");
     }
     Ok(())
 }
@@ -82,7 +83,7 @@ fn a_read_that_fails_ends_the_run(rt: HostRuntime) -> Result<(), Fail> {
     let alloc = rt.alloc();
     let mut source = input(alloc, b"posts = []", &[1])?;
     let mut sink = output(alloc, &[])?;
-    let outcome = Command::Order.run(alloc, &mut source, &mut sink);
+    let outcome = Command::Order.run(&rt, alloc, &mut source, &mut sink, &OpenGate);
     assert!(rt; matches!(&outcome.result, Err(Stop::ReadFault)));
     assert!(rt; sink.held().is_empty());
     Ok(())
@@ -92,24 +93,29 @@ fn a_read_that_fails_ends_the_run(rt: HostRuntime) -> Result<(), Fail> {
 const LIMIT: usize = 1_048_576;
 
 // How `show` ends on a document that line feeds make so long.
-fn shown_of_length(alloc: Global, length: usize) -> Result<Result<(), Stop>, AllocError> {
+fn shown_of_length<R: Threads + Sync>(
+    rt: &R,
+    alloc: Global,
+    length: usize,
+) -> Result<Result<(), Stop>, AllocError> {
     let mut bytes = Vec::from_slice(alloc, b"mesh = { cols = 1, rows = 1, window = 1 }")?;
     bytes.resize(length, b'\n')?;
     let mut source = input(alloc, &bytes, &[])?;
     let mut sink = output(alloc, &[])?;
-    Ok(Command::Show.run(alloc, &mut source, &mut sink).result)
+    let outcome = Command::Show.run(rt, alloc, &mut source, &mut sink, &OpenGate);
+    Ok(outcome.result)
 }
 
 #[test]
 fn an_input_of_the_limit_is_read_whole(rt: HostRuntime) -> Result<(), Fail> {
-    let outcome = shown_of_length(rt.alloc(), LIMIT)?;
+    let outcome = shown_of_length(&rt, rt.alloc(), LIMIT)?;
     assert!(rt; outcome.is_ok());
     Ok(())
 }
 
 #[test]
 fn an_input_past_the_limit_is_too_long(rt: HostRuntime) -> Result<(), Fail> {
-    let outcome = shown_of_length(rt.alloc(), LIMIT + 1)?;
+    let outcome = shown_of_length(&rt, rt.alloc(), LIMIT + 1)?;
     assert!(rt; matches!(&outcome, Err(Stop::TooLong)));
     Ok(())
 }

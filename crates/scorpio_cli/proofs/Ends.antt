@@ -43,15 +43,15 @@ other_than_input status (inr six) (inr (inl four)) = omega arith
 other_than_input status (inr six) (inr (inr seven)) = omega arith
 
 -- only a command that reads a document ends with a status that speaks of the input
-pub only_readers : (words : List (List ℕ)) (command : Command) (source sink : Stream) (report : Option Report) (result : Result Unit Stop)
-    → command_named words ≡ Some command → Ran command source sink report result → SpeaksOfInput (ended_with report result).status → ReadsDocument words
-only_readers words command source sink report (Ok done) named ran speaks = absurd (not_of_input (written_status report) (whole_text report) speaks)
-only_readers words command source sink report (Err Usage) named ran speaks = absurd ran
-only_readers words command source sink report (Err (Document fault)) named ran speaks = record { command = command; named = named; read = ran.0 }
-only_readers words command source sink report (Err ReadFault) named ran speaks = record { command = command; named = named; read = ran.0 }
-only_readers words command source sink report (Err WriteFault) named ran speaks = absurd (other_than_input 5 (inl refl) speaks)
-only_readers words command source sink report (Err NoMemory) named ran speaks = absurd (other_than_input 6 (inr refl) speaks)
-only_readers words command source sink report (Err TooLong) named ran speaks = record { command = command; named = named; read = ran.0 }
+pub only_readers : (words : List (List ℕ)) (command : Command) (source sink : Stream) (left : ℕ) (report : Option Report) (result : Result Unit Stop)
+    → command_named words ≡ Some command → Ran command source sink left report result → SpeaksOfInput (ended_with report left result).status → ReadsDocument words
+only_readers words command source sink left report (Ok done) named ran speaks = absurd (not_of_input (written_status report) (whole_text report) speaks)
+only_readers words command source sink left report (Err Usage) named ran speaks = absurd ran
+only_readers words command source sink left report (Err (Document fault)) named ran speaks = record { command = command; named = named; read = ran.0 }
+only_readers words command source sink left report (Err ReadFault) named ran speaks = record { command = command; named = named; read = ran.0 }
+only_readers words command source sink left report (Err WriteFault) named ran speaks = absurd (other_than_input 5 (inl refl) speaks)
+only_readers words command source sink left report (Err NoMemory) named ran speaks = absurd (other_than_input 6 (inr refl) speaks)
+only_readers words command source sink left report (Err TooLong) named ran speaks = record { command = command; named = named; read = ran.0 }
 
 -- what follows for each document follows for that of a command
 of_document : (number : Option ℕ) (input : Option (List ℕ)) (Holds Wanted : Doc → Type 0) → ((doc : Doc) → Holds doc → Wanted doc)
@@ -64,28 +64,28 @@ no_report : {P : Type 0} (report : Report) → Some report ≡ None → P
 no_report report e = absurd cc
 
 -- a report is that of a run of the command's document
-pub report_of_run : (words : List (List ℕ)) (command : Command) (source sink : Stream) (report : Option Report) (result : Result Unit Stop)
-    → command_named words ≡ Some command → Ran command source sink report result → IfSome report (IsRunOf words source.old)
-report_of_run words command source sink None result named ran = tt
-report_of_run words command source sink (Some report) (Ok done) named ran = record {
+pub report_of_run : (words : List (List ℕ)) (command : Command) (source sink : Stream) (left : ℕ) (report : Option Report) (result : Result Unit Stop)
+    → command_named words ≡ Some command → Ran command source sink left report result → IfSome report (IsRunOf words source.old left)
+report_of_run words command source sink left None result named ran = tt
+report_of_run words command source sink left (Some report) (Ok done) named ran = record {
   command = command;
   named = named;
   reported =
-      of_document (load_of command) source.old (λ doc. (text : List ℕ) × IsTextOf command doc (Some report) text × Appends sink.old sink.new text) (λ doc. IsReportOf command doc report)
+      of_document (load_of command) source.old (λ doc. (text : List ℕ) × IsTextOf command doc left (Some report) text × Appends sink.old sink.new text) (λ doc. IsReportOf command doc left report)
       (λ doc written. written.1.0) ran.0;
 }
-report_of_run words command source sink (Some report) (Err WriteFault) named ran = record {
+report_of_run words command source sink left (Some report) (Err WriteFault) named ran = record {
   command = command;
   named = named;
   reported =
-      of_document (load_of command) source.old (λ doc. (text : List ℕ) × IsTextOf command doc (Some report) text × AppendsPart sink.old sink.new text) (λ doc. IsReportOf command doc report)
+      of_document (load_of command) source.old (λ doc. (text : List ℕ) × IsTextOf command doc left (Some report) text × AppendsPart sink.old sink.new text) (λ doc. IsReportOf command doc left report)
       (λ doc written. written.1.0) ran.0;
 }
-report_of_run words command source sink (Some report) (Err Usage) named ran = absurd ran
-report_of_run words command source sink (Some report) (Err (Document fault)) named ran = no_report report ran.3
-report_of_run words command source sink (Some report) (Err ReadFault) named ran = no_report report ran.3
-report_of_run words command source sink (Some report) (Err NoMemory) named ran = no_report report ran.1
-report_of_run words command source sink (Some report) (Err TooLong) named ran = no_report report ran.3
+report_of_run words command source sink left (Some report) (Err Usage) named ran = absurd ran
+report_of_run words command source sink left (Some report) (Err (Document fault)) named ran = no_report report ran.3
+report_of_run words command source sink left (Some report) (Err ReadFault) named ran = no_report report ran.3
+report_of_run words command source sink left (Some report) (Err NoMemory) named ran = no_report report ran.1
+report_of_run words command source sink left (Some report) (Err TooLong) named ran = no_report report ran.3
 
 same_command : (words : List (List ℕ)) (one other : Command) → command_named words ≡ Some one → command_named words ≡ Some other → one ≡ other
 same_command words one other first second = same_Some one other (sym first ∙ second)
@@ -116,20 +116,20 @@ not_written status (inr (inr (inr one))) (inl (inr end)) = omega arith
 not_written status (inr (inr (inr one))) (inr end) = omega arith
 
 -- exactly a command that runs a machine and comes to writing has a report
-pub reports_exactly : (words : List (List ℕ)) (command : Command) (source sink : Stream) (report : Option Report) (result : Result Unit Stop)
-    → command_named words ≡ Some command → Ran command source sink report result → IsSome report ↔ Reports words (ended_with report result).status
-reports_exactly words command source sink report (Ok done) named ran = (
+pub reports_exactly : (words : List (List ℕ)) (command : Command) (source sink : Stream) (left : ℕ) (report : Option Report) (result : Result Unit Stop)
+    → command_named words ≡ Some command → Ran command source sink left report result → IsSome report ↔ Reports words (ended_with report left result).status
+reports_exactly words command source sink left report (Ok done) named ran = (
   λ some. record { command = command; named = named; runs = sym ran.1 ∙ some; ran = inl (whole_text report) },
   λ reports. has_one words command report (written_status report) named ran.1 reports,
 )
-reports_exactly words command source sink report (Err WriteFault) named ran =
+reports_exactly words command source sink left report (Err WriteFault) named ran =
     (λ some. record { command = command; named = named; runs = sym ran.2 ∙ some; ran = inr refl }, λ reports. has_one words command report 5 named ran.2 reports)
-reports_exactly words command source sink report (Err Usage) named ran = absurd ran
-reports_exactly words command source sink report (Err (Document fault)) named ran =
+reports_exactly words command source sink left report (Err Usage) named ran = absurd ran
+reports_exactly words command source sink left report (Err (Document fault)) named ran =
     (λ some. absurd (none_is_no_report report ran.3 some), λ reports. absurd (not_written 2 (inl refl) reports.ran))
-reports_exactly words command source sink report (Err ReadFault) named ran =
+reports_exactly words command source sink left report (Err ReadFault) named ran =
     (λ some. absurd (none_is_no_report report ran.3 some), λ reports. absurd (not_written 4 (inr (inl refl)) reports.ran))
-reports_exactly words command source sink report (Err NoMemory) named ran =
+reports_exactly words command source sink left report (Err NoMemory) named ran =
     (λ some. absurd (none_is_no_report report ran.1 some), λ reports. absurd (not_written 6 (inr (inr (inl refl))) reports.ran))
-reports_exactly words command source sink report (Err TooLong) named ran =
+reports_exactly words command source sink left report (Err TooLong) named ran =
     (λ some. absurd (none_is_no_report report ran.3 some), λ reports. absurd (not_written 7 (inr (inr (inr refl))) reports.ran))

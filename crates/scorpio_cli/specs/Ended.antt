@@ -33,11 +33,11 @@ abbrev pub fault_of_stop : Stop → Option DocFault
 fault_of_stop (Document fault) = Some fault
 fault_of_stop _ = None
 
--- how the program ends by the report and the result of its command
-abbrev pub ended_with : Option Report → Result Unit Stop → Ended
-ended_with report (Ok done) = record { status = written_status report; at = 0; doc_fault = None; report = report }
-ended_with report (Err stop) = record { status = status_of stop; at = 0; doc_fault = fault_of_stop stop; report = report }
+-- how the program ends by the report and the result of its command, and how many rounds this left out
+abbrev pub ended_with : Option Report → ℕ → Result Unit Stop → Ended
+ended_with report left (Ok done) = record { status = written_status report; at = 0; doc_fault = None; report = report; left = left }
+ended_with report left (Err stop) = record { status = status_of stop; at = 0; doc_fault = fault_of_stop stop; report = report; left = left }
 
 -- how it ends by how its command did
 abbrev pub ended_of : Outcome → Ended
-ended_of outcome = ended_with outcome.report outcome.result
+ended_of outcome = ended_with outcome.report outcome.left outcome.result

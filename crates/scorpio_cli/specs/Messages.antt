@@ -6,7 +6,7 @@ use Rattle.scorpio_cli.specs.declared.ended.Ended.{Ended}
 
 -- the forms of the words
 abbrev pub usage : List ℕ
-usage = codes "usage:\n  scorpio order\n  scorpio show\n  scorpio deliver\n  scorpio step [--pace n] [--budget n]\n  scorpio gen n [--text]"
+usage = codes "usage:\n  scorpio order\n  scorpio show\n  scorpio deliver\n  scorpio step [--pace n] [--budget n]\n  scorpio run [--budget n]\n  scorpio gen n [--text]"
 
 -- what is said of a status that comes without a fault of the document
 abbrev pub said_of : ℕ → List ℕ

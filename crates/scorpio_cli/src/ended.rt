@@ -17,13 +17,19 @@ pub struct Ended {
     pub doc_fault: Option<DocFault>,
     /// The report of the run, exactly for a command that ran a machine: at the statuses 0, 3 and 5.
     pub report: Option<Report>,
+    /// How many rounds `run` left out, since there was no memory for the table that their threads share.
+    pub left: u32,
 }
 
 impl Ended {
     pub(crate) fn of(outcome: Outcome) -> Ended
         ensures { result ≡ ended_of outcome }
     {
-        let Outcome { report, result } = outcome;
+        let Outcome {
+            report,
+            result,
+            left,
+        } = outcome;
         let (status, doc_fault) = match result {
             Ok(()) => (written_status(&report), None),
             Err(Stop::Usage) => (1, None),
@@ -38,16 +44,18 @@ impl Ended {
             at: 0,
             doc_fault,
             report,
+            left,
         }
     }
 
     /// That it stopped before it ran anything.
     pub(crate) fn stopped(stop: Stop) -> Ended
-        ensures { result ≡ ended_of (record { report = None; result = Err stop }) }
+        ensures { result ≡ ended_of (record { report = None; result = Err stop; left = 0 }) }
     {
         Ended::of(Outcome {
             report: None,
             result: Err(stop),
+            left: 0,
         })
     }
 }

@@ -6,7 +6,7 @@ use crate::ended::Ended;
 use std::fmt;
 
 const USAGE: &str =
-    "usage:\n  scorpio order\n  scorpio show\n  scorpio deliver\n  scorpio step [--pace n] [--budget n]\n  scorpio gen n [--text]";
+    "usage:\n  scorpio order\n  scorpio show\n  scorpio deliver\n  scorpio step [--pace n] [--budget n]\n  scorpio run [--budget n]\n  scorpio gen n [--text]";
 
 // What is said of a status that comes without a fault of the document.
 fn said_of(status: u8) -> &'static str

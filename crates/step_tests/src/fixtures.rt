@@ -1,14 +1,23 @@
-use commands::{Command, Outcome};
+use commands::{Command, Gate, Outcome};
 use outside_io::{MemSink, MemSource};
 use std::alloc::{AllocError, Global};
+use std::thread::Threads;
 
 const CHUNK: u32 = 1 << 20;
 
 // What a sink has room for.
 const ROOM: usize = 1 << 18;
 
+/// Holds no tile back.
+pub(crate) struct OpenGate;
+
+impl Gate for OpenGate {
+    fn pass(&self, _tile: u8, _turn: u32) {}
+}
+
 /// How the command of these arguments ends over a document, and what it has written into a sink of whose calls these fail.
-pub(crate) fn done(
+pub(crate) fn done<R: Threads + Sync>(
+    rt: &R,
     alloc: Global,
     words: &[&str],
     text: &str,
@@ -23,6 +32,6 @@ pub(crate) fn done(
         Vec::new(alloc),
     );
     let mut sink = MemSink::new(vec![in alloc; 0; ROOM]?, Vec::from_slice(alloc, fails)?);
-    let outcome = command.run(alloc, &mut source, &mut sink);
+    let outcome = command.run(rt, alloc, &mut source, &mut sink, &OpenGate);
     Ok((outcome, sink))
 }

@@ -1,4 +1,4 @@
-//! Tests of the command that runs a description's programs.
+//! Tests of the commands that run a description's programs, by sweeps and by threads.
 #![tactic(auto)]
 
 #[cfg(test)]

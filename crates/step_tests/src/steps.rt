@@ -46,18 +46,21 @@ fn first_lines(alloc: Global, count: usize) -> Result<String, AllocError> {
 }
 
 #[test]
-fn a_run_of_one_core_is_the_same_by_every_pace(rt: HostRuntime) -> Result<(), Fail> {
+fn a_run_of_one_core_is_the_same_by_every_pace_and_by_threads(rt: HostRuntime) -> Result<(), Fail> {
     let alloc = rt.alloc();
     let text = first_lines(alloc, 24)?;
-    let forms: [&[&str]; 4] = [
+    let forms: [&[&str]; 6] = [
         &["step"],
         &["step", "--pace", "1"],
         &["step", "--budget", "11"],
         &["step", "--pace", "4294967295", "--budget", "00011"],
+        &["run"],
+        &["run", "--budget", "11"],
     ];
     for words in forms {
-        let (outcome, sink) = done(alloc, words, ONE_CORE, &[])?;
+        let (outcome, sink) = done(&rt, alloc, words, ONE_CORE, &[])?;
         assert!(rt; outcome.result.is_ok());
+        assert_eq!(rt; outcome.left, 0);
         assert_eq!(rt; sink.held(), text.as_bytes());
     }
     Ok(())
@@ -79,7 +82,7 @@ const SPENT: [(&str, &str); 2] = [
 fn a_spent_budget_ends_a_run_early(rt: HostRuntime) -> Result<(), Fail> {
     let alloc = rt.alloc();
     for (budget, text) in SPENT {
-        let (outcome, sink) = done(alloc, &["step", "--budget", budget], ONE_CORE, &[])?;
+        let (outcome, sink) = done(&rt, alloc, &["step", "--budget", budget], ONE_CORE, &[])?;
         assert!(rt; outcome.result.is_ok());
         assert_eq!(rt; sink.held(), text.as_bytes());
     }
@@ -87,10 +90,20 @@ fn a_spent_budget_ends_a_run_early(rt: HostRuntime) -> Result<(), Fail> {
 }
 
 #[test]
+fn a_budget_of_one_event_leaves_no_round(rt: HostRuntime) -> Result<(), Fail> {
+    let alloc = rt.alloc();
+    let (_, text) = SPENT[1];
+    let (outcome, sink) = done(&rt, alloc, &["run", "--budget", "1"], ONE_CORE, &[])?;
+    assert!(rt; outcome.result.is_ok());
+    assert_eq!(rt; sink.held(), text.as_bytes());
+    Ok(())
+}
+
+#[test]
 fn a_write_that_fails_leaves_the_lines_before_it(rt: HostRuntime) -> Result<(), Fail> {
     let alloc = rt.alloc();
     for failing in 0..24_u32 {
-        let (outcome, sink) = done(alloc, &["step"], ONE_CORE, &[failing])?;
+        let (outcome, sink) = done(&rt, alloc, &["step"], ONE_CORE, &[failing])?;
         assert!(rt; matches!(&outcome.result, Err(Stop::WriteFault)));
         assert!(rt; outcome.report.is_some());
         let lines = first_lines(alloc, failing as usize)?;
@@ -136,7 +149,7 @@ const HEADS: [(&str, &str); 6] = [
 fn reports_of_whole_runs(rt: HostRuntime) -> Result<(), Fail> {
     let alloc = rt.alloc();
     for (text, head) in HEADS {
-        let (outcome, sink) = done(alloc, &["step"], text, &[])?;
+        let (outcome, sink) = done(&rt, alloc, &["step"], text, &[])?;
         assert!(rt; outcome.result.is_ok());
         assert!(rt; sink.held().starts_with(head.as_bytes()), "of {text}");
         assert!(rt; sink.held().ends_with(b"\nended finished\n"));
@@ -163,7 +176,7 @@ fn no_pace_lets_both_loads_read_0(rt: HostRuntime) -> Result<(), Fail> {
     for number in 0..21_u32 {
         let pace = format!(in alloc; "{number}")?;
         let words = ["step", "--pace", pace.as_str()];
-        let (outcome, _sink) = done(alloc, &words, STORES_AND_LOADS, &[])?;
+        let (outcome, _sink) = done(&rt, alloc, &words, STORES_AND_LOADS, &[])?;
         assert!(rt; outcome.result.is_ok());
         assert!(rt; loads_of_zero(&outcome) < 2, "at pace {number}");
     }
@@ -194,7 +207,7 @@ fn last_access(outcome: &Outcome, tile: u8) -> Option<(AccessKind, u32, u32)> {
 #[test]
 fn a_message_is_read_after_its_flag(rt: HostRuntime) -> Result<(), Fail> {
     let alloc = rt.alloc();
-    let (outcome, _sink) = done(alloc, &["step"], FLAG, &[])?;
+    let (outcome, _sink) = done(&rt, alloc, &["step"], FLAG, &[])?;
     assert_eq!(rt; last_access(&outcome, 1), Some((AccessKind::Load, 0, 5)));
     let Some((events, Finish::Finished)) = length_and_end(&outcome) else {
         return Err(Fail::from(AllocError));
@@ -202,7 +215,7 @@ fn a_message_is_read_after_its_flag(rt: HostRuntime) -> Result<(), Fail> {
     let less = events.saturating_sub(1);
     let budget = format!(in alloc; "{less}")?;
     let words = ["step", "--budget", budget.as_str()];
-    let (cut, _sink) = done(alloc, &words, FLAG, &[])?;
+    let (cut, _sink) = done(&rt, alloc, &words, FLAG, &[])?;
     assert!(rt; cut.result.is_ok());
     assert_eq!(rt; length_and_end(&cut), Some((less, Finish::Budget)));
     Ok(())
@@ -213,7 +226,7 @@ fn a_core_that_spins_spends_the_budget(rt: HostRuntime) -> Result<(), Fail> {
     let alloc = rt.alloc();
     let text =
         "core = [{ tile = 0, code = \"w: ld r1 r0 0\\nbeq r1 r0 w\" }]\nmesh = { cols = 1, rows = 1, window = 1 }\n";
-    let (outcome, sink) = done(alloc, &["step", "--budget", "1000"], text, &[])?;
+    let (outcome, sink) = done(&rt, alloc, &["step", "--budget", "1000"], text, &[])?;
     assert!(rt; outcome.result.is_ok());
     assert!(rt; sink.held().ends_with(b"\nended budget\n"));
     assert_eq!(rt; length_and_end(&outcome), Some((1000, Finish::Budget)));
@@ -268,7 +281,7 @@ fn every_tile_of_a_large_mesh_stores_to_one_word(rt: HostRuntime) -> Result<(), 
     let alloc = rt.alloc();
     for (cols, rows, window, hops, events) in CROWDS {
         let text = crowd(alloc, cols, rows, window)?;
-        let (outcome, sink) = done(alloc, &["step"], &text, &[])?;
+        let (outcome, sink) = done(&rt, alloc, &["step"], &text, &[])?;
         assert!(rt; outcome.result.is_ok());
         let head = crowd_head(alloc, u16::from(cols) * u16::from(rows), hops, events)?;
         assert!(rt;

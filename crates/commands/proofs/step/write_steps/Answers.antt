@@ -7,9 +7,9 @@ use Rattle.commands.specs.Outcome.{Did}
 use Rattle.commands.proofs.Runs.{report_was_written}
 use Rattle.commands.proofs.step.write_steps.Goals as goal
 
-pub returns-in-Ok : goal.returns-in-Ok
-returns-in-Ok g c =
+pub returns-in-Ok-clause-did : goal.returns-in-Ok-clause-did
+returns-in-Ok-clause-did g c =
     let sink = stream g.K.Sink.held g.K.Sink.faults c.args.sink.now c.write_run.new.sink in
     let doc = doc_of c.args.document in
-    subst (λ (report : Option Report). Did (Step c.args.pace c.args.budget) doc sink report c.write_run.result.result) (sym c.write_run.ensures.report)
-    (report_was_written (Step c.args.pace c.args.budget) doc sink c.in-Ok.report c.write_run.result.result c.in-Ok.ensures.reported refl c.write_run.ensures.written c.write_run.ensures.fault)
+    subst (λ (report : Option Report). Did (Step c.args.pace c.args.budget) doc sink c.write_run.result.left report c.write_run.result.result) (sym c.write_run.ensures.report)
+    (report_was_written (Step c.args.pace c.args.budget) doc sink c.write_run.result.left c.in-Ok.report c.write_run.result.result c.in-Ok.ensures.reported refl c.write_run.ensures.written c.write_run.ensures.fault)

@@ -85,7 +85,7 @@ fn loads_are_drawn_by_their_numbers(rt: HostRuntime) -> Result<(), Fail> {
 fn the_text_of_a_load_is_read_back(rt: HostRuntime) -> Result<(), Fail> {
     let alloc = rt.alloc();
     for number in ["0", "42", "4294967295"] {
-        let (outcome, text) = done(alloc, &["gen", number, "--text"], "", &[])?;
+        let (outcome, text) = done(&rt, alloc, &["gen", number, "--text"], "", &[])?;
         assert!(rt; outcome.result.is_ok() && outcome.report.is_none());
         let document = read_document(alloc, text.held())?;
         let mut again = output(alloc, &[])?;
@@ -112,7 +112,7 @@ fn counts(alloc: Global, outcome: &Outcome) -> Result<String, AllocError> {
 fn the_run_of_a_load_leaves_16_as_token_and_counter(rt: HostRuntime) -> Result<(), Fail> {
     let alloc = rt.alloc();
     for number in ["0", "42"] {
-        let (outcome, sink) = done(alloc, &["gen", number], "", &[])?;
+        let (outcome, sink) = done(&rt, alloc, &["gen", number], "", &[])?;
         assert!(rt; outcome.result.is_ok());
         let last = counts(alloc, &outcome)?;
         let summary = format!(in alloc;
@@ -126,10 +126,10 @@ fn the_run_of_a_load_leaves_16_as_token_and_counter(rt: HostRuntime) -> Result<(
 #[test]
 fn a_summary_is_of_the_run_by_the_pace_of_its_load(rt: HostRuntime) -> Result<(), Fail> {
     let alloc = rt.alloc();
-    let (summarized, _summary) = done(alloc, &["gen", "42"], "", &[])?;
-    let (_, load) = done(alloc, &["gen", "42", "--text"], "", &[])?;
+    let (summarized, _summary) = done(&rt, alloc, &["gen", "42"], "", &[])?;
+    let (_, load) = done(&rt, alloc, &["gen", "42", "--text"], "", &[])?;
     let text = str::from_utf8(load.held())?;
-    let (stepped, _report) = done(alloc, &["step", "--pace", "42"], text, &[])?;
+    let (stepped, _report) = done(&rt, alloc, &["step", "--pace", "42"], text, &[])?;
     assert_eq!(rt;
         counts(alloc, &summarized)?.as_str(),
         counts(alloc, &stepped)?.as_str()
@@ -140,7 +140,7 @@ fn a_summary_is_of_the_run_by_the_pace_of_its_load(rt: HostRuntime) -> Result<()
 #[test]
 fn a_summary_that_cannot_be_written_stops_between_its_lines(rt: HostRuntime) -> Result<(), Fail> {
     let alloc = rt.alloc();
-    let (outcome, sink) = done(alloc, &["gen", "42"], "", &[3])?;
+    let (outcome, sink) = done(&rt, alloc, &["gen", "42"], "", &[3])?;
     assert!(rt; matches!(&outcome.result, Err(Stop::WriteFault)));
     assert!(rt; outcome.report.is_some());
     assert_eq!(rt;
