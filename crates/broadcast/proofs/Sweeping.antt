@@ -1,7 +1,7 @@
 -- Events one after another, each where it is possible.
 use Rattle.std.proofs.Common.{◌≡◌, ℕ, zero, suc, ◌+◌, ◌-◌, ◌<◌, ◌≤◌, Bool, true, false, refl, sym, ◌∙◌, ap, subst, arith, Option, Some, None, List, [], ◌∷◌, ◌++◌, map}
 use Rattle.std.specs.Prelude.{unwrap_or, ◌||◌, filter}
-use Rattle.std.specs.Bool.{OnTrue, OnFalse}
+use Rattle.std.specs.Bool.{OnTrue}
 use Rattle.std.specs.List.{flat_map}
 use Rattle.std.specs.Prelude.{slice_get, set, is_ok, OnOk, OnErr, IfOk, Result, Ok, Err, option_map}
 use Rattle.std.proofs.lemmas.List.Sums.{fold-append}
@@ -10,7 +10,10 @@ use Rattle.std.proofs.Math.Nat.{zero-add}
 use Rattle.std.proofs.lemmas.List.Elements.{filter-append}
 use Rattle.std.proofs.lemmas.Grind.{flat_map-append}
 use Rattle.mesh_gen.specs.declared.port.Port.{Port}
-use Rattle.mesh_gen.specs.declared.port.Port.TheVariants.{L}
+use Rattle.mesh_gen.specs.declared.port.Port.TheVariants.{L, E, W, N, S}
+use Rattle.mesh_gen.specs.declared.ports.Ports.{Ports}
+use Rattle.mesh_gen.specs.Ports.{has}
+use Rattle.mesh_gen.specs.PortSets.{bits_of}
 use Rattle.mesh_gen.specs.declared.request.Request.{Request}
 use Rattle.order_tracker.specs.Order.{upwards}
 use Rattle.report_text.specs.declared.event.Event.{Event}
@@ -25,7 +28,7 @@ use Rattle.chip_model.specs.Schedules.{hops_from, router_hops, reply_events, til
 use Rattle.net_iface.specs.OrderedNet.{NetworkState, SameSizes}
 use Rattle.net_iface.proofs.Binds.{bind, made}
 use Rattle.net_iface.specs.Moves.{moves_done, most_moves}
-use Rattle.broadcast.specs.Sweeps.{MovesOn, Sweeps, tile_moves, Passes, Settles}
+use Rattle.broadcast.specs.Sweeps.{LeavesByThese, MovesOn, Sweeps, tile_moves, Passes, Settles}
 
 -- ---- one sweep after another
 pub same_sizes_join : (a b c : NetworkState) → SameSizes a b → SameSizes b c → SameSizes a c
@@ -106,11 +109,28 @@ still_slots a r port none [] = sweeps_none a
 still_slots a r port none (slot ∷ slots) =
     sweeps_join (hops_from r port slot) (flat_map (hops_from r port) slots) a a a false false (still_sides a r port slot (none slot) output_ports) (still_slots a r port none slots)
 
--- no copy leaves a channel that holds none, nor a port where no channel holds one
-pub still_channel : (a : NetworkState) (r : ℕ) (port : Port) (slot : ℕ) (holds : Bool) → holds ≡ false → OnFalse holds ((out : Port) → after_copy_hop a.chip a.network r port slot out ≡ None) → Sweeps (hops_from r port slot) a a false
-still_channel a r port slot true is none = cc
-still_channel a r port slot false is none = still_sides a r port slot none output_ports
+-- no copy leaves by a port that it does not owe, and so none where no side is owed
+pub still_side : (a : NetworkState) (r : ℕ) (port : Port) (slot : ℕ) (out : Port) (owed : Ports) → LeavesByThese a r port slot owed → has (bits_of owed) out ≡ false → Sweeps (Hop r port slot out ∷ []) a a false
+unfolding network_step
+still_side a r port slot out owed leaves none = sweeps_still (Hop r port slot out) a (leaves out none)
 
+none_of : (a b c d : Bool) → false ≡ (a || (b || (c || d))) → (a ≡ false) × (b ≡ false) × (c ≡ false) × (d ≡ false)
+none_of true b c d is = cc
+none_of false true c d is = cc
+none_of false false true d is = cc
+none_of false false false true is = cc
+none_of false false false false is = (refl, refl, refl, refl)
+
+pub still_channel : (a : NetworkState) (r : ℕ) (port : Port) (slot : ℕ) (owed : Ports) (any : Bool) → LeavesByThese a r port slot owed
+    → any ≡ (has (bits_of owed) E || (has (bits_of owed) W || (has (bits_of owed) N || has (bits_of owed) S))) → any ≡ false → Sweeps (hops_from r port slot) a a false
+still_channel a r port slot owed any leaves is none =
+    let event = Hop r port slot in
+    let sides = none_of (has (bits_of owed) E) (has (bits_of owed) W) (has (bits_of owed) N) (has (bits_of owed) S) (sym none ∙ is) in
+    sweeps_join (event E ∷ []) (event W ∷ event N ∷ event S ∷ []) a a a false false (still_side a r port slot E owed leaves sides.0)
+    (sweeps_join (event W ∷ []) (event N ∷ event S ∷ []) a a a false false (still_side a r port slot W owed leaves sides.1)
+    (sweeps_join (event N ∷ []) (event S ∷ []) a a a false false (still_side a r port slot N owed leaves sides.2) (still_side a r port slot S owed leaves sides.3)))
+
+-- nor from a port where no channel holds one
 pub still_port : (a : NetworkState) (r : ℕ) (port : Port) (vacant : Bool) → vacant ≡ true → OnTrue vacant ((slot : ℕ) (out : Port) → after_copy_hop a.chip a.network r port slot out ≡ None)
     → (slots : List ℕ) → Sweeps (flat_map (hops_from r port) slots) a a false
 still_port a r port true is none slots = still_slots a r port none slots

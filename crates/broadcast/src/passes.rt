@@ -1,33 +1,56 @@
 //! Passes through the slots of all events that move requests on.
-ghost use Rattle.std.specs.Prelude.{◌≡◌, ◌+◌, ◌<◌, ◌∷◌, []};
+ghost use Rattle.std.specs.Prelude.{◌≡◌, ◌+◌, ◌<◌, ◌||◌, ◌∷◌, []};
 ghost use Rattle.std.specs.List.{flat_map};
+ghost use Rattle.mesh_gen.specs.declared.port.Port.TheVariants.{E, W, N, S};
+ghost use Rattle.mesh_gen.specs.Ports.{has};
+ghost use Rattle.mesh_gen.specs.PortSets.{bits_of};
 ghost use Rattle.order_tracker.specs.Order.{upwards};
 ghost use Rattle.report_text.specs.declared.event.Event.TheVariants.{Take, Eject, Hop};
 ghost use Rattle.chip_model.specs.Delivery.{request_slots};
 ghost use Rattle.chip_model.specs.Schedules.{hops_from, router_hops};
-ghost use Rattle.broadcast.specs.Sweeps.{Sweeps, Settles, tile_moves};
+ghost use Rattle.broadcast.specs.Sweeps.{LeavesByThese, Sweeps, Settles, tile_moves};
 
-use mesh_gen::Port;
+use mesh_gen::{Port, Ports};
 use net_iface::OrderedNet;
 
-// The copy in a channel leaves by a side, where it can: whether it did.
-fn hop(net: &mut OrderedNet, router: u8, port: Port, slot: u8, side: Port) -> bool
-    ensures { Sweeps (Hop router port slot side ∷ []) net.old net.new result }
+// Whether a port to another router is among them.
+fn has_side(ports: Ports) -> bool
+    ensures { result ≡ (has (bits_of ports) E || (has (bits_of ports) W
+        || (has (bits_of ports) N || has (bits_of ports) S))) }
 {
-    net.hop(router, port, slot, side).is_ok()
+    ports.has(Port::E) || ports.has(Port::W) || ports.has(Port::N) || ports.has(Port::S)
 }
 
-// The copy in a channel leaves by each side where it can.
+// The copy in a channel leaves by a side, where it owes it and can: whether it did. What it owes is read again only then.
+fn hop(net: &mut OrderedNet, router: u8, port: Port, slot: u8, side: Port, owed: &mut Ports) -> bool
+    requires { LeavesByThese net.old router port slot owed.old }
+    ensures swept { Sweeps (Hop router port slot side ∷ []) net.old net.new result }
+    ensures owed { LeavesByThese net.new router port slot owed.new }
+{
+    if !owed.has(side) {
+        return false;
+    }
+    match net.hop(router, port, slot, side) {
+        Ok(()) => {
+            *owed = net.owed(router, port, slot);
+            true
+        }
+        Err(_) => false,
+    }
+}
+
+// The copy in a channel leaves by each side where it can. Most owe none.
 fn hop_by_sides(net: &mut OrderedNet, router: u8, port: Port, slot: u8) -> bool
     ensures { Sweeps (hops_from router port slot) net.old net.new result }
 {
-    if !net.owes_side(router, port, slot) {
+    let mut owed = net.owed(router, port, slot);
+    if !has_side(owed) {
         return false;
     }
-    let east = hop(net, router, port, slot, Port::E);
-    let west = hop(net, router, port, slot, Port::W);
-    let north = hop(net, router, port, slot, Port::N);
-    let south = hop(net, router, port, slot, Port::S);
+    let east = hop(net, router, port, slot, Port::E, &mut owed);
+    let west = hop(net, router, port, slot, Port::W, &mut owed);
+    let north = hop(net, router, port, slot, Port::N, &mut owed);
+    let south = hop(net, router, port, slot, Port::S, &mut owed);
     east || west || north || south
 }
 

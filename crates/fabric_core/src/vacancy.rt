@@ -1,14 +1,15 @@
-ghost use Rattle.std.specs.Prelude.{◌≡◌, ◌&&◌, ℕ, true, None};
-ghost use Rattle.std.specs.Bool.{OnTrue, OnFalse};
+ghost use Rattle.std.specs.Prelude.{◌≡◌, ◌&&◌, ℕ, true, false, None, is_some};
+ghost use Rattle.std.specs.Bool.{OnTrue};
 ghost use Rattle.mesh_gen.specs.declared.port.Port.{Port};
-ghost use Rattle.mesh_gen.specs.Ports.{port_number};
-ghost use Rattle.vc_bank.specs.Places.{at};
+ghost use Rattle.mesh_gen.specs.Ports.{port_number, has};
+ghost use Rattle.mesh_gen.specs.PortSets.{bits_of};
+ghost use Rattle.vc_bank.specs.Places.{at, vacant};
 ghost use Rattle.chip_model.specs.OrderedNetwork.{after_copy_hop};
-ghost use Rattle.router_xy.specs.RequestNetwork.{owes_side};
+ghost use Rattle.router_xy.specs.RequestNetwork.{is_owed};
 ghost use Rattle.fabric_core.specs.Vacancy.{router_vacant};
 
 use crate::Fabric;
-use mesh_gen::Port;
+use mesh_gen::{Port, Ports};
 
 // What is told of channels in which nothing stands that could go on, without a look at each event that they may have.
 impl Fabric {
@@ -26,13 +27,30 @@ impl Fabric {
         all_five(own, east, west, north, south)
     }
 
-    /// Whether a channel holds a copy that has to leave to another router. Where it holds none, none can hop from there.
-    pub fn owes_side(&self, r: u8, port: Port, slot: u8) -> bool
-        ensures owed { result ≡ owes_side (at self.now.network.copies r (port_number port) slot) }
-        ensures none { OnFalse result ((out : Port)
+    /// The same of the channels of one port.
+    pub fn no_copies_at(&self, r: u8, port: Port) -> bool
+        ensures vacant { result ≡ vacant self.now.network.copies r (port_number port) }
+        ensures none { OnTrue result ((slot : ℕ) (out : Port)
             → after_copy_hop self.now.chip self.now.network r port slot out ≡ None) }
     {
-        self.network.owes_side(r, port, slot)
+        self.network.is_vacant(r, port)
+    }
+
+    /// The ports that the copy in a channel still owes: none where none stands. It can hop by these alone.
+    pub fn owed(&self, r: u8, port: Port, slot: u8) -> Ports
+        ensures owed { (out : Port) → has (bits_of result) out
+            ≡ is_owed out (at self.now.network.copies r (port_number port) slot) }
+        ensures none { (out : Port) → has (bits_of result) out ≡ false
+            → after_copy_hop self.now.chip self.now.network r port slot out ≡ None }
+    {
+        self.network.owed(r, port, slot)
+    }
+
+    /// Whether the copy in a channel can hop by a side.
+    pub fn has_way(&self, r: u8, port: Port, slot: u8, out: Port) -> bool
+        ensures { result ≡ is_some (after_copy_hop self.now.chip self.now.network r port slot out) }
+    {
+        self.network.can_hop(r, port, slot, out)
     }
 
     /// Whether no channel of a router holds a message. Then none can go on from there.
@@ -47,6 +65,15 @@ impl Fabric {
         let north = self.replies.is_vacant(r, Port::N);
         let south = self.replies.is_vacant(r, Port::S);
         all_five(own, east, west, north, south)
+    }
+
+    /// The same of the channels of one port.
+    pub fn no_messages_at(&self, r: u8, port: Port) -> bool
+        ensures vacant { result ≡ vacant self.now.replies r (port_number port) }
+        ensures none { OnTrue result ((slot : ℕ)
+            → at self.now.replies r (port_number port) slot ≡ None) }
+    {
+        self.replies.is_vacant(r, port)
     }
 }
 

@@ -13,4 +13,4 @@ pub mod OwnersKeep
 pub mod Openings
 pub mod FirstEvents
 pub mod Reported
-pub mod IdleSlots
+pub mod MovingEvents

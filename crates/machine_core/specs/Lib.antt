@@ -4,4 +4,3 @@ pub mod Machine
 pub mod Slots
 pub mod FinalWords
 pub mod Counts
-pub mod Idle

@@ -5,7 +5,7 @@ use core_isa::{Instr, Program};
 use core_unit::InOrder;
 use doc_text::Document;
 use machine_core::Machine;
-use mesh_gen::{Items, Mesh, NoMemory, NotEnabled, Port};
+use mesh_gen::{Items, Mesh, NoMemory, NotEnabled, Port, Ports};
 use report_text::{Access, AccessKind, Event, Finish};
 use std::alloc::Global;
 use std::test::Fail;
@@ -119,30 +119,39 @@ fn slots_name_the_events(rt: HostRuntime) -> Result<(), Fail> {
     Ok(())
 }
 
-// How many slots from one on are told to be idle, where there is such a slot.
-fn idle(machine: &Machine<InOrder>, k: u32) -> Option<u32> {
-    if k < machine.slots() {
-        Some(machine.idle_slots(k))
-    } else {
-        None
-    }
-}
-
-// Slots 7 to 42 are hops, by fours of one channel, and the last ten are of replies. A request that owes its own tile alone
-// cannot hop.
+// A request that has entered its own router stands at the local port, and owes its own tile alone; the data that the
+// memory controller sends stands there as well.
 #[test]
-fn channels_in_which_nothing_stands_are_idle(rt: HostRuntime) -> Result<(), Fail> {
+fn what_may_move_on_is_told_by_the_channels(rt: HostRuntime) -> Result<(), Fail> {
     let mut machine = opened(rt.alloc())?;
-    assert_eq!(rt; (idle(&machine, 0), idle(&machine, 6)), (Some(0), Some(0)));
-    assert_eq!(rt; (idle(&machine, 7), idle(&machine, 8)), (Some(36), Some(3)));
     assert_eq!(rt;
-        (idle(&machine, 43), idle(&machine, 44)),
-        (Some(10), Some(0))
+        (machine.no_copies(0), machine.no_messages(0)),
+        (true, true)
     );
     for e in EVENTS.iter().take(3) {
         step(&mut machine, *e)?;
     }
-    assert_eq!(rt; (idle(&machine, 7), idle(&machine, 53)), (Some(4), None));
+    assert!(rt; !machine.no_copies(0));
+    assert_eq!(rt;
+        (
+            machine.no_copies_at(0, Port::L),
+            machine.no_copies_at(0, Port::E)
+        ),
+        (false, true)
+    );
+    assert_eq!(rt; machine.owed(0, Port::L, 0), Ports::L);
+    assert!(rt; !machine.can_hop(0, Port::L, 0, Port::E));
+    for e in EVENTS.iter().skip(3).take(5) {
+        step(&mut machine, *e)?;
+    }
+    assert_eq!(rt;
+        (
+            machine.no_messages(0),
+            machine.no_messages_at(0, Port::L),
+            machine.no_messages_at(0, Port::S)
+        ),
+        (false, false, true)
+    );
     Ok(())
 }
 

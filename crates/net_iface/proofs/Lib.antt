@@ -6,6 +6,7 @@ pub mod Ejects
 pub mod Entries
 pub mod Expected
 pub mod Fits
+pub mod Hops
 pub mod Injects
 pub mod InsideParts
 pub mod Interfaces

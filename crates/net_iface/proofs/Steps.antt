@@ -1,7 +1,6 @@
 -- The steps of an ordered network where their guards hold and where they do not.
 use Rattle.std.proofs.Common.{◌≡◌, ℕ, ◌+◌, Bool, true, false, [], ◌∷◌, ◌++◌, length, Option, Some, None, Result, Ok, Err, refl, sym, ◌∙◌}
 use Rattle.std.specs.Prelude.{slice_get, nat_lt, is_some, OnErr}
-use Rattle.std.specs.Bool.{OnTrue, OnFalse}
 use Rattle.std.proofs.lemmas.Option.{cond_some}
 use Rattle.mesh_gen.specs.declared.request.Request.{Request}
 use Rattle.mesh_gen.specs.declared.kind.Kind.{Kind}
@@ -145,24 +144,6 @@ pub is_some-after_copy_hop : (chip : Chip) (net : OrderedNetwork) (r : ℕ) (por
     → is_some (after_copy_hop chip net r port slot out) ≡ is_some (after_hop chip.grid net.copies r port slot out expected)
 unfolding after_copy_hop
 is_some-after_copy_hop chip net r port slot out expected is = rw (← is) (there_too (after_hop chip.grid net.copies r port slot out expected) _)
-
--- the same of an answer that no copy is there, or none that owes the side
-pub no_hops_from : (chip : Chip) (net : OrderedNetwork) (r : ℕ) (port : Port) (answer : Bool)
-    → OnTrue answer ((slot : ℕ) (out : Port) (expected : Option Name) → after_hop chip.grid net.copies r port slot out expected ≡ None)
-    → OnTrue answer ((slot : ℕ) (out : Port) → after_copy_hop chip net r port slot out ≡ None)
-no_hops_from chip net r port true none = λ slot out. after_copy_hop-none chip net r port slot out (expected_at_next_hop chip net r out) refl (none slot out _)
-no_hops_from chip net r port false none = tt
-
-pub no_hops_of : (chip : Chip) (net : OrderedNetwork) (r : ℕ) (port : Port) (slot : ℕ) (answer : Bool)
-    → OnFalse answer ((out : Port) (expected : Option Name) → after_hop chip.grid net.copies r port slot out expected ≡ None)
-    → OnFalse answer ((out : Port) → after_copy_hop chip net r port slot out ≡ None)
-no_hops_of chip net r port slot true none = tt
-no_hops_of chip net r port slot false none = λ out. after_copy_hop-none chip net r port slot out (expected_at_next_hop chip net r out) refl (none out _)
-
-pub not_owing_hop : (chip : Chip) (net : OrderedNetwork) (r : ℕ) (port : Port) (slot : ℕ) (out : Port) (answer : Bool)
-    → OnFalse answer ((expected : Option Name) → after_hop chip.grid net.copies r port slot out expected ≡ None) → answer ≡ false → after_copy_hop chip net r port slot out ≡ None
-not_owing_hop chip net r port slot out true none is = cc
-not_owing_hop chip net r port slot out false none is = after_copy_hop-none chip net r port slot out (expected_at_next_hop chip net r out) refl (none _)
 
 -- ---- a request is delivered
 

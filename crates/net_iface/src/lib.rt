@@ -3,6 +3,7 @@
 #![tactic(auto)]
 
 mod deliveries;
+mod follower;
 mod laws;
 mod ordered_net;
 mod requests;

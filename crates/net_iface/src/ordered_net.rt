@@ -1,26 +1,29 @@
-ghost use Rattle.std.specs.Prelude.{◌≡◌, ◌+◌, ◌-◌, ◌^◌, ◌<◌, ◌≤◌, ℕ, Some, None, IfOk, OnOk, OnErr, is_some, option_map, length, slice_get, slice_index};
+ghost use Rattle.std.specs.Prelude.{◌≡◌, ◌+◌, ◌-◌, ◌^◌, ◌<◌, ◌≤◌, ℕ, Some, None, IfOk, OnOk, OnErr, is_some, option_map, length, slice_get, slice_index, ◌||◌, false};
 ghost use Rattle.std.specs.Bool.{OnTrue, OnFalse};
 ghost use Rattle.mesh_gen.specs.declared.port.Port.{Port};
+ghost use Rattle.mesh_gen.specs.declared.port.Port.TheVariants.{E, W, N, S};
 ghost use Rattle.mesh_gen.specs.Limits.{IsFrom, most_tiles};
-ghost use Rattle.mesh_gen.specs.Ports.{port_number};
+ghost use Rattle.mesh_gen.specs.Ports.{port_number, has};
+ghost use Rattle.mesh_gen.specs.PortSets.{bits_of};
 ghost use Rattle.vc_bank.specs.Places.{at, vacant};
 ghost use Rattle.chip_model.specs.Chip.{chip_of_mesh, tile_count};
-ghost use Rattle.chip_model.specs.OrderedNetwork.{Interface, next_request, after_inject, after_request_post, after_network_tick, after_vector_take, expected_at, expected_at_next_hop, after_copy_hop, after_delivery};
+ghost use Rattle.chip_model.specs.OrderedNetwork.{Interface, next_request, after_inject, after_request_post, after_network_tick, after_vector_take, expected_at, after_copy_hop, after_delivery};
 ghost use Rattle.chip_model.specs.NetworkFits.{NetworkFits};
-ghost use Rattle.router_xy.specs.RequestNetwork.{owes_side};
+ghost use Rattle.router_xy.specs.RequestNetwork.{is_owed};
+ghost use Rattle.router_xy.specs.Ways.{takes_in};
 ghost use Rattle.net_iface.specs.OrderedNet.{opening_state, SameSizes, delivered_counts, delivered_by, FewAreLeft};
 ghost use Rattle.net_iface.specs.OneOrder.{IsOneOrder};
 ghost use Rattle.net_iface.specs.Moves.{moves_done, most_moves};
 
+use crate::follower::Follower;
 use crate::laws::network_laws;
 use crate::requests::{add, empty_lists, is_none_left, order_window};
 use crate::trackers::{expected_by, new_trackers, pass_over, take_in};
 use circular_buffer::HeapCircularBuffer;
 use mesh_gen::{
-    Counts, Items, Kind, Mesh, NoChannel, NoMemory, NotEnabled, Port, Request, Requests,
+    Counts, Items, Kind, Mesh, NoChannel, NoMemory, NotEnabled, Port, Ports, Request, Requests,
 };
-use order_tracker::Tracker;
-use router_xy::{Routers, owed_laws, step_laws};
+use router_xy::{Routers, Way, owed_laws, step_laws};
 use std::alloc::Global;
 use std::marker::Model;
 use window_core::Windows;
@@ -32,7 +35,7 @@ pub struct OrderedNet {
     mesh: Mesh,
     routers: Routers,
     windows: Windows,
-    trackers: Vec<Tracker>,
+    trackers: Vec<Follower>,
     // Of each tile, its requests that are not ordered yet: with those that are, all that it made.
     unordered: Vec<HeapCircularBuffer<Request>>,
     made: Vec<u32>,
@@ -289,11 +292,13 @@ impl OrderedNet {
         ensures sizes { SameSizes self.old self.new }
     {
         network_laws();
-        if !self.routers.owes(r, port, slot, out) {
+        let Some(way) = self.routers.way(r, port, slot, out) else {
+            return Err(NotEnabled);
+        };
+        if !self.takes_in(way) {
             return Err(NotEnabled);
         }
-        let expected = self.expected_at_next_hop(r, out);
-        self.routers.hop(r, port, slot, out, expected)?;
+        self.routers.go(r, port, slot, out, way);
         Ok(())
     }
 
@@ -333,13 +338,14 @@ impl OrderedNet {
         self.routers.is_vacant(r, port)
     }
 
-    /// Whether a channel holds a copy that has to leave to another router. Where it holds none, none can leave.
-    pub fn owes_side(&self, r: u8, port: Port, slot: u8) -> bool
-        ensures owed { result ≡ owes_side (at self.now.network.copies r (port_number port) slot) }
-        ensures none { OnFalse result ((out : Port)
-            → after_copy_hop self.now.chip self.now.network r port slot out ≡ None) }
+    /// The ports that the copy in a channel still owes: none where none stands. It can leave by these alone.
+    pub fn owed(&self, r: u8, port: Port, slot: u8) -> Ports
+        ensures owed { (out : Port) → has (bits_of result) out
+            ≡ is_owed out (at self.now.network.copies r (port_number port) slot) }
+        ensures none { (out : Port) → has (bits_of result) out ≡ false
+            → after_copy_hop self.now.chip self.now.network r port slot out ≡ None }
     {
-        self.routers.owes_side(r, port, slot)
+        self.routers.owed(r, port, slot)
     }
 }
 
@@ -380,11 +386,10 @@ impl OrderedNet {
     pub fn can_hop(&self, r: u8, port: Port, slot: u8, out: Port) -> bool
         ensures { result ≡ is_some (after_copy_hop self.now.chip self.now.network r port slot out) }
     {
-        if !self.routers.owes(r, port, slot, out) {
-            return false;
+        match self.routers.way(r, port, slot, out) {
+            Some(way) => self.takes_in(way),
+            None => false,
         }
-        let expected = self.expected_at_next_hop(r, out);
-        self.routers.can_hop(r, port, slot, out, expected)
     }
 
     /// Whether [`OrderedNet::eject`] would deliver a request.
@@ -421,14 +426,12 @@ impl OrderedNet {
         expected_by(&self.trackers, t)
     }
 
-    // What the tile on a side of a router expects.
-    fn expected_at_next_hop(&self, r: u8, out: Port) -> Option<(u8, u32)>
-        ensures { result ≡ expected_at_next_hop self.now.chip self.now.network r out }
+    // Whether the channel at the end of a way takes the copy in. What is expected there is asked only where that is the
+    // reserved one.
+    fn takes_in(&self, way: Way) -> bool
+        ensures { result ≡ takes_in way (expected_at self.now.chip self.now.network way.to) }
     {
-        match self.mesh.neighbour(r, out) {
-            Some(to) => self.expected(to),
-            None => None,
-        }
+        !way.entry.is_reserved || way.is_open(self.expected(way.to))
     }
 
     /// How many windows have closed: each has ordered a request at least.

@@ -5,25 +5,25 @@ ghost use Rattle.mesh_gen.specs.Mesh.{grid};
 ghost use Rattle.order_tracker.specs.Tracker.{TrackerState, next_request_of};
 ghost use Rattle.net_iface.specs.Trackers.{AreUnused, MayTakeIn, with_window, MayPass, PassesAt};
 
+use crate::follower::Follower;
 use mesh_gen::{Mesh, NoMemory};
-use order_tracker::Tracker;
 use std::alloc::Global;
 
 // A tracker for each tile of a mesh, before any window.
-pub(crate) fn new_trackers(alloc: Global, mesh: &Mesh) -> Result<Vec<Tracker>, NoMemory>
+pub(crate) fn new_trackers(alloc: Global, mesh: &Mesh) -> Result<Vec<Follower>, NoMemory>
     ensures { IfOk result (λ trackers. AreUnused (tiles (grid mesh.now))
         (tiles (grid mesh.now) * (5 * mesh.now.vcs + 4)) trackers.items) }
 {
     let tiles = mesh.tiles();
     let mut trackers = Vec::with_capacity(alloc, usize::from(tiles))?;
     for _ in 0..tiles {
-        trackers.push(Tracker::open(alloc, mesh)?)?;
+        trackers.push(Follower::open(alloc, mesh)?)?;
     }
     Ok(trackers)
 }
 
 // The request that comes next to a tile: its source and its number. None comes to what is no tile.
-pub(crate) fn expected_by(trackers: &[Tracker], t: u8) -> Option<(u8, u32)>
+pub(crate) fn expected_by(trackers: &[Follower], t: u8) -> Option<(u8, u32)>
     ensures { result ≡ option_and_then next_request_of (slice_get trackers.now t) }
 {
     match trackers.get(usize::from(t)) {
@@ -33,7 +33,7 @@ pub(crate) fn expected_by(trackers: &[Tracker], t: u8) -> Option<(u8, u32)>
 }
 
 // A tile's tracker takes in the vector of its next window.
-pub(crate) fn take_in(trackers: &mut Vec<Tracker>, t: u8, vector: u64)
+pub(crate) fn take_in(trackers: &mut Vec<Follower>, t: u8, vector: u64)
     requires { (tracker : TrackerState) → slice_get trackers.old.items t ≡ Some tracker
         → MayTakeIn vector tracker }
     ensures { (tracker : TrackerState) → slice_get trackers.old.items t ≡ Some tracker
@@ -45,7 +45,7 @@ pub(crate) fn take_in(trackers: &mut Vec<Tracker>, t: u8, vector: u64)
 }
 
 // A tile's tracker passes over the request that comes next.
-pub(crate) fn pass_over(trackers: &mut Vec<Tracker>, t: u8)
+pub(crate) fn pass_over(trackers: &mut Vec<Follower>, t: u8)
     requires { (tracker : TrackerState) → slice_get trackers.old.items t ≡ Some tracker
         → MayPass tracker }
     ensures { PassesAt t trackers.old.items trackers.new.items }

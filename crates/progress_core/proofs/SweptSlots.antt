@@ -35,7 +35,7 @@ drop_nothing : (k : ℕ) → drop {A = Event} k [] ≡ []
 drop_nothing zero = refl
 drop_nothing (suc k) = refl
 
-drop_more : (n m : ℕ) (events : List Event) → drop m (drop n events) ≡ drop (n + m) events
+pub drop_more : (n m : ℕ) (events : List Event) → drop m (drop n events) ≡ drop (n + m) events
 drop_more zero m events = ap (λ (k : ℕ). drop k events) (omega arith)
 drop_more (suc n) m [] = drop_nothing m ∙ sym (drop_nothing (suc n + m))
 drop_more (suc n) m (first ∷ events) =

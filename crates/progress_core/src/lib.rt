@@ -3,8 +3,11 @@
 
 mod bounds;
 mod forward;
+mod hops;
+mod messages;
 mod pacing;
 mod sweeping;
+mod tiles;
 
 pub use bounds::bound;
 pub use forward::forward_only;

@@ -1,11 +1,10 @@
-ghost use Rattle.std.specs.Prelude.{◌≡◌, ◌+◌, ◌<◌, ◌≤◌, ◌∷◌, [], Some, length, slice_get};
-ghost use Rattle.report_text.specs.declared.event.Event.{Event};
+ghost use Rattle.std.specs.Prelude.{◌+◌, ◌<◌, ◌≤◌, length};
 ghost use Rattle.chip_model.specs.Chip.{chip_of};
-ghost use Rattle.chip_model.specs.Schedules.{slots, slot_count, swept};
+ghost use Rattle.chip_model.specs.Schedules.{slot_count};
 ghost use Rattle.pace_core.specs.Offsets.{AnswersBelow};
-ghost use Rattle.progress_core.specs.Sweeping.{SameMachine, SweepsBetween, SweepsOnce};
+ghost use Rattle.progress_core.specs.Sweeping.{SweepsBetween, SweepsOnce};
 
-use bound_laws::bound_laws;
+use crate::tiles::{sweep_tile, try_event};
 use core_unit::Unit;
 use machine_core::Machine;
 use pace_core::Pace;
@@ -47,8 +46,8 @@ fn sweep_between<U: Unit>(machine: &mut Machine<U>, first: u32, last: u32, budge
     }
 }
 
-// Tries one slot, or passes over some of which none is possible: how many slots these are, at least one, and none from the
-// last on.
+// Tries the slots of a whole tile where these are the next ones, and else one slot: how many slots these are, at least one, and
+// none from the last on.
 fn pass_slots<U: Unit>(machine: &mut Machine<U>, k: u32, last: u32, budget: u32) -> u32
     requires order { k < last }
     requires slots { last ≤ slot_count (chip_of machine.old.document) }
@@ -59,13 +58,14 @@ fn pass_slots<U: Unit>(machine: &mut Machine<U>, k: u32, last: u32, budget: u32)
     ensures swept { SweepsBetween U.behaviour budget k (k + result) machine.old machine.new }
     ensures within { length machine.new.state.journal ≤ budget }
 {
-    machine.progresses();
-    let idle = machine.idle_slots(k);
-    if idle == 0 {
-        try_slot(machine, k, budget);
-        return 1;
+    machine.stands();
+    let each = machine.slots_each();
+    if k > 0 && (k - 1) % each == 0 && each <= last - k {
+        sweep_tile(machine, ((k - 1) / each) as u8, budget);
+        return each;
     }
-    idle.min(last - k)
+    try_slot(machine, k, budget);
+    1
 }
 
 // Does the event of a slot where it is possible and the budget is not spent.
@@ -73,16 +73,8 @@ fn try_slot<U: Unit>(machine: &mut Machine<U>, k: u32, budget: u32)
     requires slot { k < slot_count (chip_of machine.old.document) }
     requires room { budget ≤ machine.old.room }
     requires within { length machine.old.state.journal ≤ budget }
-    ensures same { SameMachine machine.old machine.new }
-    ensures tried { (event : Event) → slice_get (slots (chip_of machine.old.document)) k ≡ Some event
-        → machine.new.state ≡ swept U.behaviour (chip_of machine.old.document) budget
-        machine.old.state (event ∷ []) }
-    ensures within { length machine.new.state.journal ≤ budget }
+    ensures { SweepsBetween U.behaviour budget k (k + 1) machine.old machine.new }
 {
-    machine.progresses();
-    bound_laws();
-    if machine.length() < u64::from(budget) {
-        let event = machine.slot(k);
-        let _done = machine.step(event);
-    }
+    let event = machine.slot(k);
+    try_event(machine, event, budget);
 }

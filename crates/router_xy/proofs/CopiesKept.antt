@@ -15,7 +15,8 @@ use Rattle.chip_model.specs.Copies.{Name, name_of, channels_of, arriving, left_b
 use Rattle.chip_model.specs.CopiesOwed.{IsOnTree, OwesLess}
 use Rattle.router_xy.specs.declared.way.Way.{Way}
 use Rattle.router_xy.specs.CopiesHold.{CopiesHold}
-use Rattle.router_xy.specs.RequestNetwork.{IsAbsent, IsOpenHop}
+use Rattle.router_xy.specs.RequestNetwork.{IsAbsent}
+use Rattle.router_xy.specs.Ways.{IsOpenHop, normal_entry}
 use Rattle.router_xy.specs.CopySteps.{RequestEntered, CopyHopped, RequestServed}
 use Rattle.router_xy.proofs.Steps.{lowest_is_free}
 use Rattle.router_xy.proofs.CopyOutputs.{some_is}
@@ -60,7 +61,7 @@ request_entered g vcs old new q inside holds absent is =
 record Hop (g : Grid) (old new : Network NetCopy) (r : ℕ) (port : Port) (slot : ℕ) (out : Port) (expected : Option Name) : Type 0 where
   way : Way
   go : IsOpenHop g old r port slot out expected way
-  made : new ≡ put (put old r (port_number port) slot (left_by out way.copy)) way.to (port_number (opposite out)) way.entry (Some (arriving g way.to way.copy.request))
+  made : new ≡ put (put old r (port_number port) slot (left_by out way.copy)) way.to (port_number (opposite out)) way.entry.slot (Some (arriving g way.to way.copy.request))
 
 hop_is : (g : Grid) (old new : Network NetCopy) (r : ℕ) (port : Port) (slot : ℕ) (out : Port) (expected : Option Name) → after_hop g old r port slot out expected ≡ Some new
     → Hop g old new r port slot out expected
@@ -70,7 +71,7 @@ hop_is g old new r port slot out expected is =
     when_some (owes copy out) (goes copy) rest (λ owed next.
     option_and_then_some (λ to. enters copy to) (neighbour g r out) new next (λ to beside entry.
     option_and_then_some (λ slot. Some (landed copy to slot)) (entry_slot (channels_of old to) (opposite out) (expects expected copy.request)) new entry (λ slot found done. record {
-      way = record { copy = copy; to = to; entry = slot };
+      way = record { copy = copy; to = to; entry = normal_entry slot };
       go = record { stands = stands; owed = owed; next = beside; entry = found };
       made = sym (same_Some _ new done);
     }))))
@@ -100,10 +101,10 @@ copy_hopped g vcs old new r port slot out expected holds is =
     let some = has_tiles g r on.inside in
     let inside = way_inside g r out way.to on.inside hop.go.next in
     let leaves : Leaves old mid r p slot out way.copy (left_by out way.copy) = record { stands = hop.go.stands; owed = hop.go.owed; left_is = refl; made = refl } in
-    let arrives : Arrives g mid new way.to (port_number (opposite out)) way.entry way.copy.request (arriving g way.to way.copy.request) =
+    let arrives : Arrives g mid new way.to (port_number (opposite out)) way.entry.slot way.copy.request (arriving g way.to way.copy.request) =
     record { free = entry_beside g old mid r port slot out (opposite out) expected way (left_by out way.copy) some hop.go refl refl; copy_is = refl; made = hop.made } in
-    let normal : (way.entry < vcs) ⊎ (expects expected way.copy.request ≡ true) = subst (λ (vcs : ℕ). (way.entry < vcs) ⊎ (expects expected way.copy.request ≡ true)) (normal_there g vcs old way.to holds inside)
-    (normal_or_expected (channels_of old way.to) (opposite out) (expects expected way.copy.request) way.entry hop.go.entry) in
+    let normal : (way.entry.slot < vcs) ⊎ (expects expected way.copy.request ≡ true) = subst (λ (vcs : ℕ). (way.entry.slot < vcs) ⊎ (expects expected way.copy.request ≡ true)) (normal_there g vcs old way.to holds inside)
+    (normal_or_expected (channels_of old way.to) (opposite out) (expects expected way.copy.request) way.entry.slot hop.go.entry) in
     record {
       holds = sound-arrive (sound-leave holds leaves) on.source inside (may_go_on some holds.fit.once on leaves hop.go.next) arrives;
       owes = owes_same some inside on leaves hop.go.next arrives;

@@ -9,3 +9,4 @@ pub mod RoomForNames
 pub mod Arrived
 pub mod CopySteps
 pub mod CopiesKept
+pub mod LookedUp

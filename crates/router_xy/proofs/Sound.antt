@@ -21,7 +21,8 @@ use Rattle.chip_model.specs.NetworkShape.{HasChannels}
 use Rattle.chip_model.proofs.ChannelPuts.{HasChannels-put, HasChannels-empty, Every, every-put}
 use Rattle.router_xy.specs.declared.way.Way.{Way}
 use Rattle.router_xy.specs.CopiesHold.{CopiesHold}
-use Rattle.router_xy.specs.RequestNetwork.{IsOpenHop, RoutersFit}
+use Rattle.router_xy.specs.RequestNetwork.{RoutersFit}
+use Rattle.router_xy.specs.Ways.{IsOpenHop}
 use Rattle.router_xy.proofs.Steps.{entry_is_free, hops_away}
 use Rattle.router_xy.proofs.CopyOutputs.{some_is, stands_left, stands_arriving}
 use Rattle.router_xy.proofs.OwedCounts.{Leaves, Arrives, free_place, OwesOnce, MayCome, owing-absent, once-leave, once-arrive}
@@ -65,12 +66,12 @@ way_inside g r out to inside next = neighbour_inside g r out to (has_tiles g r i
 
 pub entry_beside : (g : Grid) (net mid : Network NetCopy) (r : ℕ) (port : Port) (slot : ℕ) (out side : Port) (expected : Option Name) (way : Way) (left : Option NetCopy) → HasTiles g
     → IsOpenHop g net r port slot out expected way
-    → mid ≡ put net r (port_number port) slot left → side ≡ opposite out → IsFree (channels_of mid way.to) (port_number side) way.entry
+    → mid ≡ put net r (port_number port) slot left → side ≡ opposite out → IsFree (channels_of mid way.to) (port_number side) way.entry.slot
 entry_beside g net mid r port slot out side expected way left some go mid_is side_is =
-    let free = entry_is_free (channels_of net way.to) (opposite out) _ way.entry go.entry in
+    let free = entry_is_free (channels_of net way.to) (opposite out) _ way.entry.slot go.entry in
     let away = hops_away g r out way.to some go.next in
     let same = ap (λ (net : Network NetCopy). channels_of net way.to) mid_is ∙ bank-put_other net r (port_number port) slot left way.to away in
-    subst (λ (side : Port). IsFree (channels_of mid way.to) (port_number side) way.entry) (sym side_is) (subst (λ (bank : Channels NetCopy). IsFree bank (port_number (opposite out)) way.entry) (sym same) free)
+    subst (λ (side : Port). IsFree (channels_of mid way.to) (port_number side) way.entry.slot) (sym side_is) (subst (λ (bank : Channels NetCopy). IsFree bank (port_number (opposite out)) way.entry.slot) (sym same) free)
 
 -- ---- the routers of a mesh with no copy
 pub nothing_stands : (g : Grid) (vcs r p slot : ℕ) (copy : NetCopy) → at (no_copies g vcs) r p slot ≡ Some copy → ⊥
@@ -85,16 +86,13 @@ sound_empty g vcs = record {
   };
 }
 
--- the routers of a mesh of one's own with the size of the mesh that was given
-pub sound_opened : (own given : Grid) (vcs : ℕ) (net : Network NetCopy) → own.cols ≡ given.cols → own.rows ≡ given.rows → IsFrom 1 most_side given.cols → IsFrom 1 most_side given.rows
+-- the routers of a mesh that was given
+pub sound_opened : (own given : Grid) (vcs : ℕ) (net : Network NetCopy) → own ≡ given → IsFrom 1 most_side given.cols → IsFrom 1 most_side given.rows
     → IsFrom 1 8 vcs → net ≡ no_copies given vcs
     → RoutersFit (record { grid = own; vcs = vcs; copies = net })
-sound_opened own given vcs net cols rows cols_limit rows_limit vcs_limit is =
+sound_opened own given vcs net same cols_limit rows_limit vcs_limit is =
     let some_column = cols_limit.low in
     let some_row = rows_limit.low in
     let some : HasTiles given = record { some_column = omega arith; some_row = omega arith } in
-    subst (λ (g : Grid). RoutersFit (record { grid = g; vcs = vcs; copies = net })) (sym (same_grid own.cols given.cols own.rows given.rows cols rows))
+    subst (λ (g : Grid). RoutersFit (record { grid = g; vcs = vcs; copies = net })) (sym same)
     (record { some = some; vcs_limit = vcs_limit; copies = subst (λ (net : Network NetCopy). CopiesHold given vcs net) (sym is) (sound_empty given vcs) })
-  where
-    same_grid : (a b p q : ℕ) → a ≡ b → p ≡ q → ◌≡◌ {A = Grid} (record { cols = a; rows = p }) (record { cols = b; rows = q })
-    same_grid a b p q cols rows = rw (cols, rows)

@@ -1,13 +1,16 @@
 -- What the steps of the request routers do, from what a call finds.
 use Rattle.std.proofs.Common.{◌≡◌, ◌≢◌, ℕ, Bool, true, false, refl, sym, ◌∙◌, ap, subst, arith, Option, Some, None}
-use Rattle.std.specs.Prelude.{is_some, ◌&&◌, ◌||◌, IfSome, IfNone}
-use Rattle.std.specs.Bool.{OnTrue, OnFalse}
+use Rattle.std.specs.Prelude.{is_some, not, ◌&&◌, ◌||◌, ◌==◌, option_map}
+use Rattle.std.specs.Bool.{OnTrue}
 use Rattle.std.specs.Option.{option_or}
+use Rattle.std.proofs.lemmas.Bool.{eq-eqb}
 use Rattle.mesh_gen.specs.declared.request.Request.{Request}
 use Rattle.mesh_gen.specs.declared.port.Port.{Port}
 use Rattle.mesh_gen.specs.declared.port.Port.TheVariants.{L, E, W, N, S}
 use Rattle.mesh_gen.specs.Grid.{Grid, neighbour, x_of, y_of}
-use Rattle.mesh_gen.specs.Ports.{port_number, opposite}
+use Rattle.mesh_gen.specs.declared.ports.Ports.{Ports}
+use Rattle.mesh_gen.specs.PortSets.{bits_of}
+use Rattle.mesh_gen.specs.Ports.{port_number, opposite, has}
 use Rattle.mesh_gen.specs.Routes.{HasTiles}
 use Rattle.mesh_gen.proofs.Beside.{Beside, beside}
 use Rattle.vc_bank.specs.Channels.{Channels, IsFree, lowest_free, reserved_free, normal_slots, is_there_and_free}
@@ -15,9 +18,11 @@ use Rattle.vc_bank.specs.Places.{Network, at, put}
 use Rattle.vc_bank.proofs.FreeSlots.{IsLowestFree-lowest_free}
 use Rattle.chip_model.specs.declared.net_copy.NetCopy.{NetCopy}
 use Rattle.chip_model.specs.Partial.{◌>>=◌, when}
-use Rattle.chip_model.specs.Copies.{Name, channels_of, arriving, left_by, owes, after_entry, entry_slot, expects, after_hop, local_place, after_serve}
+use Rattle.chip_model.specs.Copies.{Name, name_of, channels_of, arriving, left_by, owes, after_entry, entry_slot, expects, after_hop, local_place, after_serve}
+use Rattle.router_xy.specs.declared.way.Entry.{Entry}
 use Rattle.router_xy.specs.declared.way.Way.{Way}
-use Rattle.router_xy.specs.RequestNetwork.{IsOpenHop, is_owed, owes_side}
+use Rattle.router_xy.specs.RequestNetwork.{is_owed}
+use Rattle.router_xy.specs.Ways.{IsOpenHop, IsWay, free_entry, normal_entry, reserved_entry, takes_in}
 
 -- ---- a channel that takes a copy in is free
 pub lowest_is_free : (channels : Channels NetCopy) (p slot : ℕ) → lowest_free channels p ≡ Some slot → IsFree channels p slot
@@ -61,9 +66,9 @@ seen_at read net r p slot = seen (λ net. at net r p slot) read net
 pub seen_free : (read net : Network NetCopy) (r p : ℕ) (answer value : Option ℕ) → read ≡ net → answer ≡ lowest_free (channels_of read r) p → answer ≡ value → lowest_free (channels_of net r) p ≡ value
 seen_free read net r p = seen (λ net. lowest_free (channels_of net r) p) read net
 
-pub seen_entry : (read net : Network NetCopy) (to : ℕ) (out port : Port) (expected : Option Name) (q : Request) (is_expected : Bool) (answer value : Option ℕ) → read ≡ net → port ≡ opposite out → is_expected ≡ expects expected q
-    → answer ≡ entry_slot (channels_of read to) port is_expected → answer ≡ value → entry_slot (channels_of net to) (opposite out) (expects expected q) ≡ value
-seen_entry read net to out port expected q is_expected answer value same port_is expects_is is found = rw (← same, ← port_is, ← expects_is, ← is) found
+pub seen_entry : (read net : Network NetCopy) (to : ℕ) (out port : Port) (answer value : Option Entry) → read ≡ net → port ≡ opposite out
+    → answer ≡ free_entry (channels_of read to) port → answer ≡ value → free_entry (channels_of net to) (opposite out) ≡ value
+seen_entry read net to out port answer value same port_is is found = rw (← same, ← port_is, ← is) found
 
 -- ---- a request enters, or is refused
 pub entered_into : (g : Grid) (net : Network NetCopy) (q : Request) (slot : ℕ) → lowest_free (channels_of net q.source) (port_number L) ≡ Some slot → after_entry g net q ≡ Some (put net q.source (port_number L) slot (Some (arriving g q.source q)))
@@ -91,16 +96,24 @@ pub not_owed : (g : Grid) (net : Network NetCopy) (r : ℕ) (port : Port) (slot 
 unfolding after_hop
 not_owed g net r port slot out expected copy stands owed = rw (stands, owed)
 
+-- no port is in an empty set
+pub has_none : (ports : Ports) (out : Port) → bits_of ports ≡ 0 → has (bits_of ports) out ≡ false
+unfolding has
+has_none ports L none = rw none refl
+has_none ports E none = rw none refl
+has_none ports W none = rw none refl
+has_none ports N none = rw none refl
+has_none ports S none = rw none refl
+
 -- the same of an answer that no copy is there, or none that owes the port
 pub no_copies_in : (g : Grid) (net : Network NetCopy) (r : ℕ) (port : Port) (answer : Bool) → OnTrue answer ((slot : ℕ) → at net r (port_number port) slot ≡ None)
     → OnTrue answer ((slot : ℕ) (out : Port) (expected : Option Name) → after_hop g net r port slot out expected ≡ None)
 no_copies_in g net r port true none = λ slot out expected. no_copy g net r port slot out expected (none slot)
 no_copies_in g net r port false none = tt
 
-pub not_owing : (g : Grid) (net : Network NetCopy) (r : ℕ) (port : Port) (slot : ℕ) (out : Port) (answer : Bool) → answer ≡ is_owed out (at net r (port_number port) slot)
-    → OnFalse answer ((expected : Option Name) → after_hop g net r port slot out expected ≡ None)
-not_owing g net r port slot out true is = tt
-not_owing g net r port slot out false is = λ expected. by (at net r (port_number port) slot) refl is expected
+pub not_owing : (g : Grid) (net : Network NetCopy) (r : ℕ) (port : Port) (slot : ℕ) (out : Port) → false ≡ is_owed out (at net r (port_number port) slot)
+    → (expected : Option Name) → after_hop g net r port slot out expected ≡ None
+not_owing g net r port slot out is = by (at net r (port_number port) slot) refl is
   where
     by : (found : Option NetCopy) → at net r (port_number port) slot ≡ found → false ≡ is_owed out found → (expected : Option Name) → after_hop g net r port slot out expected ≡ None
     by None stands is expected = no_copy g net r port slot out expected stands
@@ -111,56 +124,90 @@ pub no_router : (g : Grid) (net : Network NetCopy) (r : ℕ) (port : Port) (slot
 unfolding after_hop
 no_router g net r port slot out expected copy stands owed next = rw (stands, owed, next)
 
--- a copy that owes no other router goes nowhere
-four_false : (a b c d : Bool) → false ≡ (a || (b || (c || d))) → (a ≡ false) × (b ≡ false) × (c ≡ false) × (d ≡ false)
-four_false false false false false is = (refl, refl, refl, refl)
-four_false false false false true is = cc
-four_false false false true d is = cc
-four_false false true c d is = cc
-four_false true b c d is = cc
+-- the channel that takes a copy in is the free one, where that takes it
+module _ (channels : Channels NetCopy) (port : Port) where
+  taken : (lowest : Option ℕ) (free is_expected : Bool) (entry : Entry) → option_or (option_map normal_entry lowest) (when free (Some (reserved_entry (normal_slots channels)))) ≡ Some entry
+      → (not entry.is_reserved || is_expected) ≡ true → option_or lowest (when (is_expected && free) (Some (normal_slots channels))) ≡ Some entry.slot
+  taken (Some slot) free is_expected entry is takes = cc
+  taken None true true entry is takes = cc
+  taken None true false entry is takes = cc
+  taken None false is_expected entry is takes = cc
 
-not_by_side : (g : Grid) (net : Network NetCopy) (r : ℕ) (port : Port) (slot : ℕ) (expected : Option Name) (copy : NetCopy) → at net r (port_number port) slot ≡ Some copy → false ≡ owes_side (Some copy) → (out : Port) → after_hop g net r port slot out expected ≡ None
-not_by_side g net r port slot expected copy stands is out = by out (four_false (owes copy E) (owes copy W) (owes copy N) (owes copy S) is)
-  where
-    own : (holds : Bool) → owes copy L ≡ holds → after_hop g net r port slot L expected ≡ None
-    own true holds = no_router g net r port slot L expected copy stands holds refl
-    own false holds = not_owed g net r port slot L expected copy stands holds
+  not_taken : (lowest : Option ℕ) (free is_expected : Bool) (entry : Entry) → option_or (option_map normal_entry lowest) (when free (Some (reserved_entry (normal_slots channels)))) ≡ Some entry
+      → (not entry.is_reserved || is_expected) ≡ false → option_or lowest (when (is_expected && free) (Some (normal_slots channels))) ≡ None
+  not_taken (Some slot) free is_expected entry is takes = cc
+  not_taken None true true entry is takes = cc
+  not_taken None true false entry is takes = refl
+  not_taken None false is_expected entry is takes = cc
 
-    by : (out : Port) → (owes copy E ≡ false) × (owes copy W ≡ false) × (owes copy N ≡ false) × (owes copy S ≡ false) → after_hop g net r port slot out expected ≡ None
-    by L none = own (owes copy L) refl
-    by E none = not_owed g net r port slot E expected copy stands none.0
-    by W none = not_owed g net r port slot W expected copy stands none.1
-    by N none = not_owed g net r port slot N expected copy stands none.2
-    by S none = not_owed g net r port slot S expected copy stands none.3
+  none_free : (lowest : Option ℕ) (free is_expected : Bool) → option_or (option_map normal_entry lowest) (when free (Some (reserved_entry (normal_slots channels)))) ≡ None
+      → option_or lowest (when (is_expected && free) (Some (normal_slots channels))) ≡ None
+  none_free (Some slot) free is_expected is = cc
+  none_free None true is_expected is = cc
+  none_free None false true is = refl
+  none_free None false false is = refl
 
-pub no_side : (g : Grid) (net : Network NetCopy) (r : ℕ) (port : Port) (slot : ℕ) (answer : Bool) → answer ≡ owes_side (at net r (port_number port) slot)
-    → OnFalse answer ((out : Port) (expected : Option Name) → after_hop g net r port slot out expected ≡ None)
-no_side g net r port slot true is = tt
-no_side g net r port slot false is = λ out expected. by (at net r (port_number port) slot) refl is out expected
-  where
-    by : (found : Option NetCopy) → at net r (port_number port) slot ≡ found → false ≡ owes_side found → (out : Port) (expected : Option Name) → after_hop g net r port slot out expected ≡ None
-    by None stands is out expected = no_copy g net r port slot out expected stands
-    by (Some copy) stands is out expected = not_by_side g net r port slot expected copy stands is out
+  pub entry_taken : (is_expected : Bool) (entry : Entry) → free_entry channels port ≡ Some entry → (not entry.is_reserved || is_expected) ≡ true → entry_slot channels port is_expected ≡ Some entry.slot
+  entry_taken is_expected entry = taken (lowest_free channels (port_number port)) (reserved_free channels (port_number port)) is_expected entry
 
-pub no_entry : (g : Grid) (net : Network NetCopy) (r : ℕ) (port : Port) (slot : ℕ) (out : Port) (expected : Option Name) (copy : NetCopy) (to : ℕ) → at net r (port_number port) slot ≡ Some copy → owes copy out ≡ true → neighbour g r out ≡ Some to
+  pub entry_not_taken : (is_expected : Bool) (entry : Entry) → free_entry channels port ≡ Some entry → (not entry.is_reserved || is_expected) ≡ false → entry_slot channels port is_expected ≡ None
+  entry_not_taken is_expected entry = not_taken (lowest_free channels (port_number port)) (reserved_free channels (port_number port)) is_expected entry
+
+  pub no_entry_taken : (is_expected : Bool) → free_entry channels port ≡ None → entry_slot channels port is_expected ≡ None
+  no_entry_taken is_expected = none_free (lowest_free channels (port_number port)) (reserved_free channels (port_number port)) is_expected
+
+pub refused_entry : (g : Grid) (net : Network NetCopy) (r : ℕ) (port : Port) (slot : ℕ) (out : Port) (expected : Option Name) (copy : NetCopy) (to : ℕ) → at net r (port_number port) slot ≡ Some copy → owes copy out ≡ true → neighbour g r out ≡ Some to
     → entry_slot (channels_of net to) (opposite out) (expects expected copy.request) ≡ None → after_hop g net r port slot out expected ≡ None
 unfolding after_hop
-no_entry g net r port slot out expected copy to stands owed next entry = rw (stands, owed, next, entry)
+refused_entry g net r port slot out expected copy to stands owed next entry = rw (stands, owed, next, entry)
+
+-- without a free channel no request is taken in, whatever is expected
+pub no_entry : (g : Grid) (net : Network NetCopy) (r : ℕ) (port : Port) (slot : ℕ) (out : Port) (expected : Option Name) (copy : NetCopy) (to : ℕ) → at net r (port_number port) slot ≡ Some copy → owes copy out ≡ true → neighbour g r out ≡ Some to
+    → free_entry (channels_of net to) (opposite out) ≡ None → after_hop g net r port slot out expected ≡ None
+no_entry g net r port slot out expected copy to stands owed next none =
+    refused_entry g net r port slot out expected copy to stands owed next (no_entry_taken (channels_of net to) (opposite out) (expects expected copy.request) none)
+
+-- a way along which the copy is taken in
+pub opened : (g : Grid) (net : Network NetCopy) (r : ℕ) (port : Port) (slot : ℕ) (out : Port) (expected : Option Name) (way : Way) → IsWay g net r port slot out way → takes_in way expected ≡ true → IsOpenHop g net r port slot out expected way
+opened g net r port slot out expected way is takes = record {
+  stands = is.stands;
+  owed = is.owed;
+  next = is.next;
+  entry = entry_taken (channels_of net way.to) (opposite out) (expects expected way.copy.request) way.entry is.entry takes;
+}
 
 pub hopped_by : (g : Grid) (net : Network NetCopy) (r : ℕ) (port : Port) (slot : ℕ) (out : Port) (expected : Option Name) (way : Way) → IsOpenHop g net r port slot out expected way
-    → after_hop g net r port slot out expected ≡ Some (put (put net r (port_number port) slot (left_by out way.copy)) way.to (port_number (opposite out)) way.entry (Some (arriving g way.to way.copy.request)))
+    → after_hop g net r port slot out expected ≡ Some (put (put net r (port_number port) slot (left_by out way.copy)) way.to (port_number (opposite out)) way.entry.slot (Some (arriving g way.to way.copy.request)))
 unfolding after_hop
 hopped_by g net r port slot out expected way is = rw (is.stands, is.owed, is.next, is.entry)
 
-pub can_go : (g : Grid) (net : Network NetCopy) (r : ℕ) (port : Port) (slot : ℕ) (out : Port) (expected : Option Name) (found : Option Way) → IfSome found (λ way. IsOpenHop g net r port slot out expected way) → IfNone found (after_hop g net r port slot out expected ≡ None)
-    → is_some found ≡ is_some (after_hop g net r port slot out expected)
-can_go g net r port slot out expected (Some way) some none = sym (ap is_some (hopped_by g net r port slot out expected way some))
-can_go g net r port slot out expected None some none = sym (ap is_some none)
+-- it can go exactly where the channel takes it in
+pub goes_where_taken : (g : Grid) (net : Network NetCopy) (r : ℕ) (port : Port) (slot : ℕ) (out : Port) (expected : Option Name) (way : Way) → IsWay g net r port slot out way
+    → takes_in way expected ≡ is_some (after_hop g net r port slot out expected)
+goes_where_taken g net r port slot out expected way is = by (takes_in way expected) refl
+  where
+    by : (takes : Bool) → takes_in way expected ≡ takes → takes ≡ is_some (after_hop g net r port slot out expected)
+    by true takes = sym (ap is_some (hopped_by g net r port slot out expected way (opened g net r port slot out expected way is takes)))
+    by false takes = sym (ap is_some (refused_entry g net r port slot out expected way.copy way.to is.stands is.owed is.next (entry_not_taken (channels_of net way.to) (opposite out) (expects expected way.copy.request) way.entry is.entry takes)))
+
+-- some request is taken in along every way: the copy's own, where it is expected
+own_name : (n : ℕ) → (n == n) ≡ true
+own_name n = eq-eqb n n refl
+
+pub own_taken : (way : Way) → takes_in way (Some (name_of way.copy.request)) ≡ true
+own_taken way = by way.entry.is_reserved
+  where
+    named : expects (Some (name_of way.copy.request)) way.copy.request ≡ true
+    named = rw (own_name way.copy.request.source, own_name way.copy.request.number) refl
+
+    by : (reserved : Bool) → (not reserved || expects (Some (name_of way.copy.request)) way.copy.request) ≡ true
+    by true = named
+    by false = refl
 
 -- the two writes of a hop, one after the other
 pub landed : (g : Grid) (net mid new : Network NetCopy) (r : ℕ) (port : Port) (slot : ℕ) (out side : Port) (way : Way) (left : Option NetCopy) (copy : NetCopy) → mid ≡ put net r (port_number port) slot left → left ≡ left_by out way.copy → side ≡ opposite out
-    → copy ≡ arriving g way.to way.copy.request → new ≡ put mid way.to (port_number side) way.entry (Some copy)
-    → put (put net r (port_number port) slot (left_by out way.copy)) way.to (port_number (opposite out)) way.entry (Some (arriving g way.to way.copy.request)) ≡ new
+    → copy ≡ arriving g way.to way.copy.request → new ≡ put mid way.to (port_number side) way.entry.slot (Some copy)
+    → put (put net r (port_number port) slot (left_by out way.copy)) way.to (port_number (opposite out)) way.entry.slot (Some (arriving g way.to way.copy.request)) ≡ new
 landed g net mid new r port slot out side way left copy mid_is left_is side_is copy_is made = cc
 
 -- ---- a request is served

@@ -1,17 +1,16 @@
 -- The request routers as plain data, and what stands in their channels.
-use Rattle.std.specs.Prelude.{◌≡◌, ℕ, Bool, true, false, ◌||◌, Option, Some, None, option_map}
+use Rattle.std.specs.Prelude.{◌≡◌, ℕ, Bool, false, Option, Some, None, option_map}
 use Rattle.mesh_gen.specs.declared.port.Port.{Port}
-use Rattle.mesh_gen.specs.declared.port.Port.TheVariants.{L, E, W, N, S}
-use Rattle.mesh_gen.specs.Grid.{Grid, neighbour}
+use Rattle.mesh_gen.specs.declared.port.Port.TheVariants.{L}
+use Rattle.mesh_gen.specs.Grid.{Grid}
 use Rattle.mesh_gen.specs.Limits.{IsFrom}
-use Rattle.mesh_gen.specs.Ports.{port_number, opposite, count_if}
+use Rattle.mesh_gen.specs.Ports.{port_number, count_if}
 use Rattle.mesh_gen.specs.Routes.{HasTiles}
 use Rattle.vc_bank.specs.Places.{Network, at, weigh}
 use Rattle.chip_model.specs.declared.net_copy.NetCopy.{NetCopy}
-use Rattle.chip_model.specs.Copies.{Name, is_named, owes, channels_of, entry_slot, expects}
+use Rattle.chip_model.specs.Copies.{Name, is_named, owes}
 use Rattle.chip_model.specs.CopiesOwed.{Owes}
 use Rattle.router_xy.specs.CopiesHold.{CopiesHold}
-use Rattle.router_xy.specs.declared.way.Way.{Way}
 
 -- the grid of the routers, how many normal channels a port has, and the copies in the channels
 pub record RequestNetwork : Type 0 where
@@ -27,18 +26,6 @@ IsAbsent net name = (router port slot : ℕ) (copy : NetCopy) → at net router 
 abbrev pub is_owed : Port → Option NetCopy → Bool
 is_owed out None = false
 is_owed out (Some copy) = owes copy out
-
--- whether a channel holds a copy that owes a port to another router
-abbrev pub owes_side : Option NetCopy → Bool
-owes_side None = false
-owes_side (Some copy) = owes copy E || (owes copy W || (owes copy N || owes copy S))
-
--- a copy owes an output port, there is a router there, and a channel of it takes the copy in
-pub record IsOpenHop (g : Grid) (net : Network NetCopy) (r : ℕ) (port : Port) (slot : ℕ) (out : Port) (expected : Option Name) (way : Way) : Type 0 where
-  pub stands : at net r (port_number port) slot ≡ Some way.copy
-  pub owed : owes way.copy out ≡ true
-  pub next : neighbour g r out ≡ Some way.to
-  pub entry : entry_slot (channels_of net way.to) (opposite out) (expects expected way.copy.request) ≡ Some way.entry
 
 -- how many copies stand at a tile that they owe
 unfoldable pub arrived : Network NetCopy → ℕ

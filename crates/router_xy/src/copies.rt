@@ -1,11 +1,11 @@
 //! What one copy owes.
-ghost use Rattle.std.specs.Prelude.{◌≡◌, Some};
+ghost use Rattle.std.specs.Prelude.{◌≡◌};
+ghost use Rattle.mesh_gen.specs.PortSets.{bits_of};
 ghost use Rattle.chip_model.specs.Copies.{left_by, owes_tile, expects};
-ghost use Rattle.router_xy.specs.RequestNetwork.{owes_side};
 
 use bitflags::Flags;
 use chip_model::NetCopy;
-use mesh_gen::{Port, Request};
+use mesh_gen::{Port, Ports, Request};
 
 // What is left of a copy once it has left by a port.
 pub(crate) fn left_by(out: Port, copy: NetCopy) -> Option<NetCopy>
@@ -21,12 +21,11 @@ pub(crate) fn left_by(out: Port, copy: NetCopy) -> Option<NetCopy>
     })
 }
 
-// Whether a copy owes a port to another router.
-pub(crate) fn owes_side(copy: NetCopy) -> bool
-    ensures { result ≡ owes_side (Some copy) }
+// No port.
+pub(crate) fn no_ports() -> Ports
+    ensures { bits_of result ≡ 0 }
 {
-    copy.owed.has(Port::E)
-        || (copy.owed.has(Port::W) || (copy.owed.has(Port::N) || copy.owed.has(Port::S)))
+    Ports::from_bits_retain(0)
 }
 
 // Whether this is the request that is expected.

@@ -8,7 +8,9 @@ mod laws;
 mod local;
 mod routers;
 mod way;
+mod wiring;
 
 pub use chip_model::NetCopy;
 pub use laws::{copies_laws, owed_laws, step_laws};
 pub use routers::Routers;
+pub use way::{Entry, Way};

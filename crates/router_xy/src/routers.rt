@@ -1,21 +1,24 @@
-ghost use Rattle.std.specs.Prelude.{◌≡◌, ◌<◌, ◌≤◌, ◌+◌, ◌*◌, ℕ, Option, Some, None, true, false, IfOk, OnOk, OnErr, is_some};
-ghost use Rattle.std.specs.Bool.{OnTrue, OnFalse};
+ghost use Rattle.std.specs.Prelude.{◌≡◌, ◌<◌, ◌≤◌, ◌+◌, ◌*◌, ℕ, Option, Some, None, true, false, IfOk, IfSome, IfNone, OnOk, OnErr, is_some};
+ghost use Rattle.std.specs.Bool.{OnTrue};
 ghost use Rattle.mesh_gen.specs.declared.port.Port.{Port};
 ghost use Rattle.mesh_gen.specs.Grid.{tiles};
 ghost use Rattle.mesh_gen.specs.Mesh.{grid};
-ghost use Rattle.mesh_gen.specs.Ports.{port_number};
+ghost use Rattle.mesh_gen.specs.PortSets.{bits_of};
+ghost use Rattle.mesh_gen.specs.Ports.{port_number, has};
 ghost use Rattle.vc_bank.specs.Places.{at, vacant};
 ghost use Rattle.chip_model.specs.Copies.{Name, no_copies, name_of, after_entry, after_hop, local_place, after_serve};
 ghost use Rattle.chip_model.specs.CopiesOwed.{CopiesFit, OwesMore, OwesSame, OwesLess, NoneComes, ComesAlone, ReservesExpected, ReservesNothing};
 ghost use Rattle.chip_model.specs.NetworkShape.{HasChannels};
-ghost use Rattle.router_xy.specs.RequestNetwork.{IsAbsent, is_owed, owes_side, arrived};
+ghost use Rattle.router_xy.specs.RequestNetwork.{IsAbsent, is_owed, arrived};
+ghost use Rattle.router_xy.specs.Ways.{IsWay, takes_in};
 
-use crate::banks::entry_slot;
-use crate::copies::{expects, left_by, owes_side};
+use crate::banks::free_entry;
+use crate::copies::{left_by, no_ports};
 use crate::local::place_owing;
 use crate::way::Way;
+use crate::wiring::Wiring;
 use chip_model::NetCopy;
-use mesh_gen::{Mesh, NoChannel, NoMemory, NotEnabled, Port, Request};
+use mesh_gen::{Mesh, NoChannel, NoMemory, NotEnabled, Port, Ports, Request};
 use std::alloc::Global;
 use std::marker::Model;
 use vc_bank::{Bank, empty_banks, free_slot, is_vacant, leave, packet_at, put_into};
@@ -24,26 +27,25 @@ use vc_bank::{Bank, empty_banks, free_slot, is_vacant, leave, packet_at, put_int
 /// a port has, and the copies.
 #[derive(Drop)]
 pub struct Routers {
-    mesh: Mesh,
+    wiring: Wiring,
     // How many normal channels a port has. The reserved one has this number.
     vcs: u8,
     banks: Vec<Bank<NetCopy>>,
 }
 
 impl Model for Routers {
-    ghost use Rattle.mesh_gen.specs.Mesh.{grid};
     ghost use Rattle.router_xy.specs.RequestNetwork.{RequestNetwork, RoutersFit};
 
     ghost Value = { RequestNetwork };
 
     ghost view = { λ routers. record {
-      grid = grid routers.mesh;
+      grid = routers.wiring;
       vcs = routers.vcs;
       copies = routers.banks.items;
     } };
 
     ghost invariant = { λ routers. RoutersFit (record {
-      grid = grid routers.mesh;
+      grid = routers.wiring;
       vcs = routers.vcs;
       copies = routers.banks.items;
     }) };
@@ -60,7 +62,7 @@ impl Routers {
             }) }
     {
         Ok(Routers {
-            mesh: Mesh::of_size(alloc, mesh.cols, mesh.rows, mesh.window)?,
+            wiring: Wiring::of(alloc, mesh)?,
             vcs: mesh.vcs,
             banks: empty_banks(alloc, mesh.tiles(), mesh.vcs, true)?,
         })
@@ -74,7 +76,7 @@ impl Routers {
         ensures fit { CopiesFit self.now.grid self.now.copies }
         ensures arrived { arrived self.now.copies ≤ tiles self.now.grid * (5 * self.now.vcs + 4) }
     {
-        self.mesh.tiles()
+        self.wiring.tiles()
     }
 
     /// Puts a request into the lowest free channel of its source's local port, owing every port of the tree there.
@@ -127,13 +129,67 @@ impl Routers {
         ensures grid { self.new.grid ≡ self.old.grid }
         ensures vcs { self.new.vcs ≡ self.old.vcs }
     {
-        let Some(way) = self.find_hop(r, port, slot, out, expected) else {
+        let Some(way) = self.way(r, port, slot, out) else {
             return Err(NotEnabled);
         };
+        if !way.is_open(expected) {
+            return Err(NotEnabled);
+        }
+        self.go(r, port, slot, out, way);
+        Ok(())
+    }
+
+    /// The way of a copy out of a channel by an output port that it owes, as far as the next router has a channel that is
+    /// free. What is expected there is asked only where that is the reserved one.
+    pub fn way(&self, r: u8, port: Port, slot: u8, out: Port) -> Option<Way>
+        ensures some { IfSome result (λ way.
+            IsWay self.now.grid self.now.copies r port slot out way) }
+        ensures none { IfNone result ((expected : Option Name)
+            → after_hop self.now.grid self.now.copies r port slot out expected ≡ None) }
+        // It can go exactly where the channel takes it in.
+        ensures goes { IfSome result (λ way. (expected : Option Name)
+            → takes_in way expected
+            ≡ is_some (after_hop self.now.grid self.now.copies r port slot out expected)) }
+    {
+        let Some(copy) = packet_at(&self.banks, r, port, slot) else {
+            return None;
+        };
+        if !copy.owed.has(out) {
+            return None;
+        }
+        let Some(to) = self.wiring.neighbour(r, out) else {
+            return None;
+        };
+        let Some(entry) = free_entry(&self.banks, self.vcs, to, out.opposite()) else {
+            return None;
+        };
+        Some(Way { copy, to, entry })
+    }
+
+    /// Moves a copy along its way.
+    pub fn go(&mut self, r: u8, port: Port, slot: u8, out: Port, way: Way)
+        requires { IsWay self.old.grid self.old.copies r port slot out way }
+        ensures hopped { (expected : Option Name) → takes_in way expected ≡ true
+            → after_hop self.old.grid self.old.copies r port slot out expected
+            ≡ Some self.new.copies }
+        ensures owed { OwesSame self.old.grid self.old.copies self.new.copies }
+        ensures requests { NoneComes self.old.copies self.new.copies }
+        ensures reserved { (expected : Option Name) → takes_in way expected ≡ true
+            → ReservesExpected self.old.grid self.old.vcs r out expected self.old.copies
+            self.new.copies }
+        ensures arrived { arrived self.new.copies ≡ arrived self.old.copies + 1 }
+        ensures grid { self.new.grid ≡ self.old.grid }
+        ensures vcs { self.new.vcs ≡ self.old.vcs }
+    {
         let copy = self.arriving(way.to, way.copy.request);
         leave(&mut self.banks, r, port, slot, left_by(out, way.copy));
-        put_into(&mut self.banks, way.to, out.opposite(), way.entry, copy);
-        Ok(())
+        put_into(
+            &mut self.banks,
+            way.to,
+            out.opposite(),
+            way.entry.slot,
+            copy,
+        );
     }
 
     /// Whether no channel of a port of the router `r` holds a copy. Then none can hop.
@@ -145,27 +201,16 @@ impl Routers {
         is_vacant(&self.banks, r, port)
     }
 
-    /// Whether a channel holds a copy that has to leave to another router. Where it holds none, none can hop.
-    pub fn owes_side(&self, r: u8, port: Port, slot: u8) -> bool
-        ensures owed { result ≡ owes_side (at self.now.copies r (port_number port) slot) }
-        ensures none { OnFalse result ((out : Port) (expected : Option Name)
-            → after_hop self.now.grid self.now.copies r port slot out expected ≡ None) }
+    /// The ports that the copy in a channel still owes: none where none stands. It can hop by these alone.
+    pub fn owed(&self, r: u8, port: Port, slot: u8) -> Ports
+        ensures owed { (out : Port) → has (bits_of result) out
+            ≡ is_owed out (at self.now.copies r (port_number port) slot) }
+        ensures none { (out : Port) → has (bits_of result) out ≡ false → (expected : Option Name)
+            → after_hop self.now.grid self.now.copies r port slot out expected ≡ None }
     {
         match packet_at(&self.banks, r, port, slot) {
-            Some(copy) => owes_side(copy),
-            None => false,
-        }
-    }
-
-    /// Whether a channel holds a copy that has to leave by the port `out`.
-    pub fn owes(&self, r: u8, port: Port, slot: u8, out: Port) -> bool
-        ensures owed { result ≡ is_owed out (at self.now.copies r (port_number port) slot) }
-        ensures none { OnFalse result ((expected : Option Name)
-            → after_hop self.now.grid self.now.copies r port slot out expected ≡ None) }
-    {
-        match packet_at(&self.banks, r, port, slot) {
-            Some(copy) => copy.owed.has(out),
-            None => false,
+            Some(copy) => copy.owed,
+            None => no_ports(),
         }
     }
 
@@ -223,15 +268,18 @@ impl Routers {
         ensures { result
             ≡ is_some (after_hop self.now.grid self.now.copies r port slot out expected) }
     {
-        self.find_hop(r, port, slot, out, expected).is_some()
+        match self.way(r, port, slot, out) {
+            Some(way) => way.is_open(expected),
+            None => false,
+        }
     }
 }
 
 impl Routers {
-    ghost use Rattle.std.specs.Prelude.{◌≡◌, ◌<◌, IfSome, IfNone, None};
+    ghost use Rattle.std.specs.Prelude.{◌≡◌, ◌<◌};
     ghost use Rattle.mesh_gen.specs.Grid.{tiles};
-    ghost use Rattle.chip_model.specs.Copies.{arriving, after_hop, local_place};
-    ghost use Rattle.router_xy.specs.RequestNetwork.{IsOpenHop, numbered};
+    ghost use Rattle.chip_model.specs.Copies.{arriving, local_place};
+    ghost use Rattle.router_xy.specs.RequestNetwork.{numbered};
 
     // A copy that comes to a router owes every port of the tree there.
     fn arriving(&self, r: u8, q: Request) -> NetCopy
@@ -241,38 +289,8 @@ impl Routers {
     {
         NetCopy {
             request: q,
-            owed: self.mesh.tree_outs(q.source, r),
+            owed: self.wiring.tree_outs(q.source, r),
         }
-    }
-
-    // The way of a copy out of a channel by an output port, where it can go.
-    fn find_hop(
-        &self,
-        r: u8,
-        port: Port,
-        slot: u8,
-        out: Port,
-        expected: Option<(u8, u32)>,
-    ) -> Option<Way>
-        ensures some { IfSome result (λ way.
-            IsOpenHop self.now.grid self.now.copies r port slot out expected way) }
-        ensures none { IfNone result
-            (after_hop self.now.grid self.now.copies r port slot out expected ≡ None) }
-    {
-        let Some(copy) = packet_at(&self.banks, r, port, slot) else {
-            return None;
-        };
-        if !copy.owed.has(out) {
-            return None;
-        }
-        let Some(to) = self.mesh.neighbour(r, out) else {
-            return None;
-        };
-        let is_expected = expects(expected, copy.request);
-        let Some(entry) = entry_slot(&self.banks, self.vcs, to, out.opposite(), is_expected) else {
-            return None;
-        };
-        Some(Way { copy, to, entry })
     }
 
     // The place of the copy of a request that owes the router's own tile.

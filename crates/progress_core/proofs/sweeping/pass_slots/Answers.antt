@@ -1,31 +1,22 @@
-use Rattle.std.proofs.Common.{◌+◌, refl, sym, ◌∙◌, ap, arith}
-use Rattle.chip_model.specs.Chip.{chip_of}
-use Rattle.chip_model.specs.Schedules.{slots, swept}
-use Rattle.net_iface.proofs.Places.{item_at}
-use Rattle.progress_core.specs.Events.{events_between}
-use Rattle.progress_core.proofs.SweptSlots.{one_between, among, swept_idle}
+use Rattle.std.proofs.Common.{◌≡◌, ℕ, ◌+◌, ◌-◌, ◌*◌, ◌/◌, ◌<◌, List, sym, ◌∙◌, ap, subst, arith}
+use Rattle.report_text.specs.declared.event.Event.{Event}
+use Rattle.chip_model.specs.Chip.{chip_of, tile_count}
+use Rattle.chip_model.specs.Schedules.{slots_per_tile}
+use Rattle.progress_core.specs.Sweeping.{SweepsThrough}
+use Rattle.progress_core.proofs.TilePlaces.{tile_between, first_of_tile, inside}
 use Rattle.progress_core.proofs.sweeping.pass_slots.Goals as goal
 
-pub returns-then-idle-eq0-clause-swept : goal.returns-then-idle-eq0-clause-swept
-returns-then-idle-eq0-clause-swept g c =
-    let b = g.U.Unit.behaviour in
+pub returns-then-each-last-clause-swept : goal.returns-then-each-last-clause-swept
+returns-then-each-last-clause-swept g c =
     let old = c.args.machine.now in
     let chip = chip_of old.document in
-    let event = item_at (slots chip) c.args.k (omega (arith, c.progresses.ensures.count, c.requires.slots, c.requires.order)) in
-    record {
-      same = c.try_slot.ensures.same;
-      swept_is = c.try_slot.ensures.tried event.item event.there ∙ ap (swept b chip c.args.budget old.state) (sym (one_between c.args.k (slots chip) event.item event.there));
-    }
-
-pub returns-clause-swept : goal.returns-clause-swept
-returns-clause-swept g c =
-    let b = g.U.Unit.behaviour in
-    let old = c.args.machine.now in
-    let chip = chip_of old.document in
-    record {
-      same = record { document = refl; room = refl };
-      swept_is =
-          sym (swept_idle b chip c.args.budget old.state (events_between c.args.k (c.args.k + c.min.result) (slots chip)) (λ i event there.
-          let one = among c.args.k (c.args.k + c.min.result) (slots chip) i event there in
-          c.idle_slots-idle.ensures (c.args.k + i) event (omega arith) (omega (arith, one.0, c.min.ensures)) one.1));
-    }
+    let k = c.args.k in
+    let each = c.slots_each-each.result in
+    let tile = (k - 1) / each in
+    let many : each ≡ slots_per_tile chip = c.slots_each-each.ensures in
+    let most = ap (λ (n : ℕ). tile_count chip * n) many in
+    let here : tile < tile_count chip = inside k c.args.last each (tile_count chip) (omega (arith, many)) c.if-k-gt0.true c.if-each-last.true c.requires.order
+    (omega (arith, c.requires.slots, most)) in
+    let first : k ≡ 1 + tile * slots_per_tile chip = first_of_tile k each c.if-k-gt0.true c.if-k-each-eq0.true ∙ ap (λ (n : ℕ). 1 + tile * n) many in
+    subst (λ (events : List Event). SweepsThrough g.U.Unit.behaviour c.args.budget events old c.sweep_tile.new.machine)
+    (sym (tile_between chip tile k (k + each) here first (ap (λ (n : ℕ). k + n) many))) c.sweep_tile.ensures

@@ -1,6 +1,6 @@
 use Rattle.net_iface.specs.Parts.{network_of}
 use Rattle.net_iface.proofs.InsideParts.{parts}
-use Rattle.net_iface.proofs.Steps.{no_hops_from}
+use Rattle.net_iface.proofs.Hops.{no_hops_from}
 use Rattle.net_iface.proofs.ordered_net.OrderedNet.is_vacant.Goals as goal
 
 pub returns-clause-vacant : goal.returns-clause-vacant

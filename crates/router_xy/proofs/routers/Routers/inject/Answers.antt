@@ -1,7 +1,6 @@
 use Rattle.std.proofs.Common.{arith, ◌≡◌, ◌<◌, sym, ◌∙◌, ap, Some}
 use Rattle.mesh_gen.specs.declared.port.Port.TheVariants.{L}
 use Rattle.mesh_gen.specs.Grid.{tiles}
-use Rattle.mesh_gen.specs.Mesh.{grid}
 use Rattle.mesh_gen.specs.Ports.{port_number}
 use Rattle.vc_bank.specs.Places.{put}
 use Rattle.chip_model.specs.Copies.{channels_of, name_of, arriving, after_entry}
@@ -17,19 +16,19 @@ returns-in_default-clause-err c = rw (← c.self.view_is) (not_entered _ _ _ (se
 pub put_into-requires : goal.put_into-requires
 put_into-requires c = (omega arith, lowest_is_free (channels_of c.self.inside.banks.items c.args.q.source) (port_number L) c.in-Some.slot (seen_free _ _ _ _ _ _ c.deref.ensures.value c.free_slot.ensures c.in-Some.is))
 
-steps : (c : goal.After-put_into) → after_entry (grid c.self.inside.mesh) c.self.inside.banks.items c.args.q ≡ Some c.put_into.new.banks.items
+steps : (c : goal.After-put_into) → after_entry (c.self.inside.wiring) c.self.inside.banks.items c.args.q ≡ Some c.put_into.new.banks.items
 steps c =
     let net = c.self.inside.banks.items in
     let q = c.args.q in
-    let is : c.arriving-copy.result ≡ arriving (grid c.self.inside.mesh) q.source q = rw (← c.self.view_is) at c.arriving-copy.ensures in
-    entered_into (grid c.self.inside.mesh) net q c.in-Some.slot (seen_free _ _ _ _ _ _ c.deref.ensures.value c.free_slot.ensures c.in-Some.is)
+    let is : c.arriving-copy.result ≡ arriving (c.self.inside.wiring) q.source q = rw (← c.self.view_is) at c.arriving-copy.ensures in
+    entered_into (c.self.inside.wiring) net q c.in-Some.slot (seen_free _ _ _ _ _ _ c.deref.ensures.value c.free_slot.ensures c.in-Some.is)
     ∙ ap (λ copy. Some (put net q.source (port_number L) c.in-Some.slot (Some copy))) (sym is) ∙ ap Some (sym c.put_into.ensures)
 
-enters : (c : goal.After-put_into) → RequestEntered (grid c.self.inside.mesh) c.self.inside.vcs c.args.q c.self.inside.banks.items c.put_into.new.banks.items
+enters : (c : goal.After-put_into) → RequestEntered (c.self.inside.wiring) c.self.inside.vcs c.args.q c.self.inside.banks.items c.put_into.new.banks.items
 enters c =
-    let source : c.args.q.source < tiles (grid c.self.inside.mesh) = rw (← c.self.view_is) at c.requires.source in
+    let source : c.args.q.source < tiles (c.self.inside.wiring) = rw (← c.self.view_is) at c.requires.source in
     let absent : IsAbsent c.self.inside.banks.items (name_of c.args.q) = rw (← c.self.view_is) at c.requires.absent in
-    request_entered (grid c.self.inside.mesh) c.self.inside.vcs c.self.inside.banks.items c.put_into.new.banks.items c.args.q source c.self.invariant.copies absent (steps c)
+    request_entered (c.self.inside.wiring) c.self.inside.vcs c.self.inside.banks.items c.put_into.new.banks.items c.args.q source c.self.invariant.copies absent (steps c)
 
 pub invariant_of-self : goal.invariant_of-self
 invariant_of-self c = record { some = c.self.invariant.some; vcs_limit = c.self.invariant.vcs_limit; copies = (enters c).holds }

@@ -10,6 +10,5 @@ opened c = c.in_ok-empty_banks.ensures ∙ ap (λ (count : ℕ). replicate count
 
 pub invariant_of-result : goal.invariant_of-result
 invariant_of-result c =
-    let size = c.in_ok-of_size.ensures in
     let given = c.args.mesh.now in
-    sound_opened (grid c.in_ok-of_size.field-0) (grid given) given.vcs c.in_ok-empty_banks.field-0.items size.cols_is size.rows_is given.cols_limit given.rows_limit given.vcs_limit (opened c)
+    sound_opened c.in_ok-of.field-0 (grid given) given.vcs c.in_ok-empty_banks.field-0.items c.in_ok-of.ensures given.cols_limit given.rows_limit given.vcs_limit (opened c)

@@ -1,5 +1,4 @@
 use Rattle.std.proofs.Common.{◌≡◌, Some}
-use Rattle.mesh_gen.specs.Mesh.{grid}
 use Rattle.mesh_gen.specs.Ports.{port_number}
 use Rattle.vc_bank.specs.Places.{at}
 use Rattle.chip_model.specs.Copies.{local_place, after_serve}
@@ -29,8 +28,8 @@ steps c =
     rw (c.leave.ensures, c.left_by.ensures) (served_at net c.args.r c.args.id p c.in-Some.slot copy (seen_place net c.args.r c.args.id c.local_place.result c.in-Some.port c.in-Some.slot is c.in-Some.is) stands)
 
 serves : (c : goal.After-result-1)
-    → RequestServed (grid c.self.inside.mesh) c.self.inside.vcs c.args.r c.args.id c.in-Some-packet_at.copy.request c.self.inside.banks.items c.leave.new.banks.items
-serves c = request_served (grid c.self.inside.mesh) c.self.inside.vcs c.self.inside.banks.items c.leave.new.banks.items c.args.r c.args.id c.in-Some-packet_at.copy.request c.self.invariant.copies (steps c)
+    → RequestServed (c.self.inside.wiring) c.self.inside.vcs c.args.r c.args.id c.in-Some-packet_at.copy.request c.self.inside.banks.items c.leave.new.banks.items
+serves c = request_served (c.self.inside.wiring) c.self.inside.vcs c.self.inside.banks.items c.leave.new.banks.items c.args.r c.args.id c.in-Some-packet_at.copy.request c.self.invariant.copies (steps c)
 
 pub invariant_of-self : goal.invariant_of-self
 invariant_of-self c = record { some = c.self.invariant.some; vcs_limit = c.self.invariant.vcs_limit; copies = (serves c).holds }

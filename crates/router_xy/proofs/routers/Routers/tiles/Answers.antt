@@ -1,4 +1,3 @@
-use Rattle.mesh_gen.specs.Mesh.{grid}
 use Rattle.router_xy.proofs.Arrived.{arrived_fits}
 use Rattle.router_xy.proofs.routers.Routers.tiles.Goals as goal
 
@@ -9,4 +8,4 @@ pub returns-clause-fit : goal.returns-clause-fit
 returns-clause-fit c = rw (← c.self.view_is) c.self.invariant.copies.fit
 
 pub returns-clause-arrived : goal.returns-clause-arrived
-returns-clause-arrived c = rw (← c.self.view_is) (arrived_fits (grid c.self.inside.mesh) c.self.inside.vcs c.self.inside.banks.items c.self.invariant.copies.channels)
+returns-clause-arrived c = rw (← c.self.view_is) (arrived_fits (c.self.inside.wiring) c.self.inside.vcs c.self.inside.banks.items c.self.invariant.copies.channels)
