@@ -20,6 +20,51 @@ code = "wait: ld r1 r0 0\\nbeq r1 r0 wait"
 """.encode()
 
 
+# One core, whose run is the same by threads: nothing of it is up to a schedule.
+ONE_CORE = """[mesh]
+cols = 1
+rows = 1
+window = 1
+lines = 1
+sets = 1
+[[core]]
+tile = 0
+code = '''
+li r1 7
+st r1 r0 2
+ld r2 r0 2
+'''
+""".encode()
+
+# Two cores that each store to a word of their own and load that of the other.
+STORES_AND_LOADS = """[mesh]
+cols = 2
+rows = 1
+window = 1
+lines = 2
+sets = 2
+[[core]]
+tile = 0
+code = '''
+li r1 1
+st r1 r0 0
+ld r2 r0 4
+'''
+[[core]]
+tile = 1
+code = '''
+li r1 1
+st r1 r0 4
+ld r2 r0 0
+'''
+""".encode()
+
+
+def small_for(command):
+    """A small description of which the command always writes one and the same text."""
+    return ONE_CORE if command == "run" else SMALL
+
+
 def spinning():
     """A core that waits for ever. A run of it ends with its budget, and is as long as that."""
     return _SPIN

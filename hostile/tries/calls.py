@@ -10,11 +10,11 @@ import tempfile
 from pathlib import Path
 
 from support.program import Skipped, Wrong
-from support.texts import FAULTY, SMALL, long_show, spinning, text_of
+from support.texts import FAULTY, ONE_CORE, SMALL, long_show, spinning, text_of
 from support.trials import Trial
 
 RUN = ["step", "--budget", "9000"]
-PROGRAMS = ((["order"], SMALL), (["deliver"], SMALL), (["show"], long_show()), (RUN, spinning()))
+PROGRAMS = ((["order"], SMALL), (["deliver"], SMALL), (["show"], long_show()), (RUN, spinning()), (["run"], ONE_CORE))
 READ_ERRORS, WRITE_ERRORS = ("EIO", "EAGAIN"), ("EIO", "ENOSPC", "EPIPE", "EAGAIN")
 
 

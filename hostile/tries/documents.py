@@ -9,8 +9,6 @@ from support.trials import Trial
 DOCUMENTS, OF_ALL = 1000, 10_000
 # How many documents are one trial.
 TOGETHER = 20
-# Every so many documents one is also run with a thread for each tile, which takes longer.
-THREADS_EVERY = 10
 # How many events of each tile a round adds at most.
 ROUND_EVENTS = 17
 
@@ -24,27 +22,25 @@ def trials(options):
 def several(program, seed, numbers):
     for number in numbers:
         document = made(seed, number)
-        meant = try_document(program, document)
-        if meant is not None and number % THREADS_EVERY == 0:
-            by_threads = program.run(["run", "--budget", str(document.budget)], document.data)
-            check_run(by_threads, meant, document.budget, ROUND_EVENTS * meant.tiles() - 1)
+        try_document(program, document)
 
 
 def try_document(program, document):
-    """Tries each command that has no threads. The document as it is read, where it has no fault."""
-    run = ["step", "--pace", str(document.pace), "--budget", str(document.budget)]
-    ends = {words[0]: program.run(words, document.data) for words in (["order"], ["deliver"], ["show"], run)}
+    """Tries each command: the texts are those that the references give, or each tells the first fault."""
+    step = ["step", "--pace", str(document.pace), "--budget", str(document.budget)]
+    run = ["run", "--budget", str(document.budget)]
+    ends = {words[0]: program.run(words, document.data) for words in (["order"], ["deliver"], ["show"], step, run)}
     try:
         meant = reading.read(document.data)
     except reading.DocFault as fault:
         for end in ends.values():
             end.wants(2, b"", fault.line())
-        return None
+        return
     ends["order"].wants(0, order_text(meant))
     ends["deliver"].wants(0, deliver_text(meant))
     ends["show"].wants(0, meant.canonical_text())
     check_run(ends["step"], meant, document.budget, 0)
-    return meant
+    check_run(ends["run"], meant, document.budget, ROUND_EVENTS * meant.tiles() - 1)
 
 
 def check_run(end, document, budget, beyond):

@@ -6,10 +6,10 @@ import tempfile
 
 from support.program import INPUT_LIMIT, Wrong
 from support.streams import Run, closed, feed, hung_up_terminal, raw_terminal, reset_socket, small_pipe
-from support.texts import FAULT, FAULTY, SMALL, long_show, spinning, text_of
+from support.texts import FAULT, FAULTY, ONE_CORE, SMALL, long_show, small_for, spinning, text_of
 from support.trials import Trial
 
-COMMANDS = ("order", "deliver", "show", "step")
+COMMANDS = ("order", "deliver", "show", "step", "run")
 
 
 def trials(options):
@@ -40,7 +40,8 @@ def long_text_into_a_full_device(program):
 
 def spent_run_into_a_full_device(program):
     with open("/dev/full", "wb") as full:
-        program.run(["step", "--budget", "9000"], spinning(), stdout=full).wants(5)
+        for command in ("step", "run"):
+            program.run([command, "--budget", "9000"], spinning(), stdout=full).wants(5)
 
 
 def reader_leaves(program, count):
@@ -79,7 +80,8 @@ def slow_output(program, command, document, count, pause):
 
 def output_that_may_not_be_written(program):
     with open("/dev/null", "rb") as reading_only:
-        program.run(["order"], SMALL, stdout=reading_only).wants(5)
+        for command in COMMANDS:
+            program.run([command], SMALL, stdout=reading_only).wants(5)
 
 
 def output_to_a_reset_socket(program):
@@ -134,6 +136,7 @@ def error_is_gone_at_each_status(program):
     with open("/dev/full", "wb") as full, open("/dev/null", "rb") as reading_only:
         for error in (full, reading_only, into):
             for words, document, status in (([], b"", 1), (["show"], FAULTY, 2), (["step", "--budget", "9"], spinning(), 3),
+                                            (["run", "--budget", "1"], ONE_CORE, 3),
                                             (["order"], bytes(INPUT_LIMIT + 1), 7)):
                 whole = program.run(words, document).wants(status, said=FAULT if status == 2 else None).text
                 program.run(words, document, stderr=error).wants(status, whole, b"")
@@ -159,8 +162,9 @@ def one_byte_past_the_limit_is_taken(program):
 
 
 def input_of_the_limit(program, command):
-    padded = SMALL + b"\n" * (INPUT_LIMIT - len(SMALL))
-    whole = program.run([command], SMALL).wants(0).text
+    small = small_for(command)
+    padded = small + b"\n" * (INPUT_LIMIT - len(small))
+    whole = program.run([command], small).wants(0).text
     program.run([command], padded).wants(0, whole)
     program.run([command], padded + b"\n").wants(7, b"")
 
@@ -191,8 +195,8 @@ def input_in_pieces(program, command, document, count, pause):
 
 def input_that_stops(program, command):
     """It waits as long as the input may go on, and then does what the whole of it says."""
-    whole = program.run([command], SMALL).wants(0).text
-    end = stopped_run(program, command, SMALL)
+    whole = program.run([command], small_for(command)).wants(0).text
+    end = stopped_run(program, command, small_for(command))
     if (end.status, end.text) != (0, whole):
         end.refuse(f"status {end.status} and another text than where the input does not stop")
 
@@ -220,7 +224,8 @@ def input_that_stops_and_is_cut(program):
 
 def input_that_may_not_be_read(program):
     with open("/dev/null", "wb") as writing_only:
-        program.run(["order"], stdin=writing_only).wants(4, b"")
+        for command in COMMANDS:
+            program.run([command], stdin=writing_only).wants(4, b"")
 
 
 def input_from_a_reset_socket(program):

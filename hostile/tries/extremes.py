@@ -57,7 +57,7 @@ def trials(_options):
 
 
 def faulty(program, data, line):
-    for command in ("show", "step"):
+    for command in ("show", "step", "run"):
         program.run([command], data).wants(2, b"", line)
 
 

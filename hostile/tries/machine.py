@@ -6,27 +6,33 @@ import signal
 import tempfile
 import time
 
+from support import reading
 from support.program import End, Skipped, Wrong, contents
 from support.streams import Run, closed, small_pipe
-from support.texts import FAULTY, SMALL, long_show, spinning, text_of
+from support.texts import FAULTY, ONE_CORE, SMALL, long_show, spinning, text_of
 from support.trials import Trial
+from tries.documents import ROUND_EVENTS, check_run
 
 AT_ONCE = 64
 # A run of about a second.
-LONG_RUN = ["step", "--pace", "5", "--budget", "40000"]
+LONG_RUN = ["step", "--pace", "5", "--budget", "400000"]
+# A run by threads that takes some tenths of a second at least.
+THREADS_BUDGET = 4000
 # What is tried of memory goes up to here, in kilobytes, where each of the runs has enough.
 AMPLE = 128 * 1024
 
 
 def trials(options):
-    for action in (stopped_and_continued, stopped_before_its_input, stopped_before_a_full_pipe, signals_without_meaning,
-                   many_at_once, little_stack):
+    for action in (stopped_and_continued, threads_stopped_and_continued, stopped_before_its_input, stopped_before_a_full_pipe,
+                   signals_without_meaning, many_at_once, little_stack):
         yield Trial(action.__name__.replace("_", " "), action)
-    for number in (signal.SIGTERM, signal.SIGINT, signal.SIGHUP, signal.SIGKILL):
-        yield Trial(f"a run that {number.name} ends", ended_by_a_signal, number)
+    for command in ("step", "run"):
+        for number in (signal.SIGTERM, signal.SIGINT, signal.SIGHUP, signal.SIGKILL):
+            yield Trial(f"{command} that {number.name} ends", ended_by_a_signal, command, number)
     steps = 120 if options.all else 30
     for words, document in ((["order"], SMALL), (["deliver"], SMALL), (["show"], long_show()), (["show"], FAULTY), ([], b""),
-                            (["step"], SMALL), (["step", "--budget", "3000"], spinning()), (["order"], bytes(2**20 + 1))):
+                            (["step"], SMALL), (["step", "--budget", "3000"], spinning()), (["run"], ONE_CORE),
+                            (["order"], bytes(2**20 + 1))):
         yield Trial(f"little memory, {' '.join(words)} of {len(document)} bytes", little_memory, words, document, steps)
 
 
@@ -41,8 +47,20 @@ def started(program, words, document, stdout):
 
 def stopped_and_continued(program):
     whole = program.run(LONG_RUN, spinning()).wants(3).text
+    end_of_stopped(program, LONG_RUN, spinning()).wants(3, whole)
+
+
+def threads_stopped_and_continued(program):
+    """All threads of a run stand still together, wherever each of them is, and go on: the report is one of the document."""
+    document = reading.read(spinning())
+    end = end_of_stopped(program, ["run", "--budget", str(THREADS_BUDGET)], spinning())
+    check_run(end, document, THREADS_BUDGET, ROUND_EVENTS * document.tiles() - 1)
+
+
+def end_of_stopped(program, words, document):
+    """The end of a run that was stopped again and again."""
     with tempfile.TemporaryFile() as sink:
-        run = started(program, LONG_RUN, spinning(), sink)
+        run = started(program, words, document, sink)
         stops = 0
         while run.process.poll() is None:
             stops += stop_and_continue(run)
@@ -50,7 +68,7 @@ def stopped_and_continued(program):
         if stops < 3:
             raise Wrong(f"the run ended after {stops} stops: it is too short to be tried")
         run.text += contents(sink)
-    run.end().wants(3, whole)
+    return run.end()
 
 
 def stop_and_continue(run):
@@ -102,10 +120,10 @@ def signals_without_meaning(program):
     run.end().wants(3, whole)
 
 
-def ended_by_a_signal(program, number):
+def ended_by_a_signal(program, command, number):
     """Nothing of a run is written before it has ended, so a run that is ended by force has written nothing."""
     with tempfile.TemporaryFile() as sink:
-        run = started(program, ["step", "--budget", "4000000"], spinning(), sink)
+        run = started(program, [command, "--budget", "4000000"], spinning(), sink)
         time.sleep(0.1)
         run.process.send_signal(number)
         run.text += contents(sink)
@@ -117,7 +135,8 @@ def ended_by_a_signal(program, number):
 # ---- many at once
 
 def many_at_once(program):
-    runs = [(["order"], SMALL), (["deliver"], SMALL), (["show"], long_show()), (["step", "--budget", "2000"], spinning())]
+    runs = [(["order"], SMALL), (["deliver"], SMALL), (["show"], long_show()), (["step", "--budget", "2000"], spinning()),
+            (["run"], ONE_CORE)]
     wholes = [program.run(words, document) for words, document in runs]
     sinks = [tempfile.TemporaryFile() for _ in range(AT_ONCE)]
     going = [started(program, *runs[at % len(runs)], sink) for at, sink in enumerate(sinks)]
@@ -163,7 +182,8 @@ def little_memory(program, words, document, steps):
 
 def little_stack(program):
     """It calls no function to a depth that the input names, so a small stack is enough."""
-    for document, words in ((long_show(), ["show"]), (b"a = " + b"[" * 2**20, ["show"]), (spinning(), ["step", "--budget", "2000"])):
+    for document, words in ((long_show(), ["show"]), (b"a = " + b"[" * 2**20, ["show"]), (spinning(), ["step", "--budget", "2000"]),
+                            (ONE_CORE, ["run"])):
         whole = program.run(words, document[:2**20])
         end = run_within(program, 256, words, document[:2**20], resource.RLIMIT_STACK)
         if (end.status, end.text, end.said) != (whole.status, whole.text, whole.said):

@@ -23,14 +23,23 @@ pub(crate) fn done<R: Threads + Sync>(
     text: &str,
     fails: &[u32],
 ) -> Result<(Outcome, MemSink), AllocError> {
+    let bytes = Vec::from_slice(alloc, text.as_bytes())?;
+    let source = MemSource::new(bytes, CHUNK, Vec::new(alloc));
+    done_from(rt, alloc, words, source, fails)
+}
+
+/// The same over what a source gives.
+pub(crate) fn done_from<R: Threads + Sync>(
+    rt: &R,
+    alloc: Global,
+    words: &[&str],
+    source: MemSource,
+    fails: &[u32],
+) -> Result<(Outcome, MemSink), AllocError> {
     let Some(command) = Command::of(words) else {
         return Err(AllocError);
     };
-    let mut source = MemSource::new(
-        Vec::from_slice(alloc, text.as_bytes())?,
-        CHUNK,
-        Vec::new(alloc),
-    );
+    let mut source = source;
     let mut sink = MemSink::new(vec![in alloc; 0; ROOM]?, Vec::from_slice(alloc, fails)?);
     let outcome = command.run(rt, alloc, &mut source, &mut sink, &OpenGate);
     Ok((outcome, sink))

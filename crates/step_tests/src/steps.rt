@@ -1,5 +1,6 @@
-use crate::fixtures::done;
+use crate::fixtures::{done, done_from};
 use commands::{Outcome, Stop};
+use outside_io::MemSource;
 use report_text::{AccessKind, Finish};
 use std::alloc::{AllocError, Global};
 use std::test::Fail;
@@ -108,6 +109,32 @@ fn a_write_that_fails_leaves_the_lines_before_it(rt: HostRuntime) -> Result<(), 
         assert!(rt; outcome.report.is_some());
         let lines = first_lines(alloc, failing as usize)?;
         assert_eq!(rt; sink.held(), lines.as_bytes(), "at {failing}");
+    }
+    Ok(())
+}
+
+// How many bytes a read of these tests gives, and how many reads the description of one core then takes: the last finds its end.
+const PIECE: u32 = 16;
+
+const READS: u32 = 9;
+
+#[test]
+fn a_read_that_fails_leaves_nothing_written(rt: HostRuntime) -> Result<(), Fail> {
+    let alloc = rt.alloc();
+    for failing in 0..READS + 1 {
+        let bytes = Vec::from_slice(alloc, ONE_CORE.as_bytes())?;
+        let source = MemSource::new(bytes, PIECE, vec![in alloc; failing; 1]?);
+        let (outcome, sink) = done_from(&rt, alloc, &["step"], source, &[])?;
+        if failing < READS {
+            assert!(rt;
+                matches!(&outcome.result, Err(Stop::ReadFault)),
+                "at {failing}"
+            );
+            assert!(rt; outcome.report.is_none());
+            assert!(rt; sink.held().is_empty());
+        } else {
+            assert!(rt; outcome.result.is_ok());
+        }
     }
     Ok(())
 }
